@@ -102,7 +102,9 @@ fn items(value: &Value, field: Field, least: usize, most: usize) -> Result<&[Val
 pub(crate) fn parts(item: &Value, field: Field, count: usize) -> Result<&[Value], LineFault>
     ensures { Gives (λ found. items_view found.now) result (parts count field (view item.now)) }
 {
-    let found = item.as_array().ok_or(LineFault::BadField(field))?;
+    let Some(found) = item.as_array() else {
+        return Err(LineFault::BadField(field));
+    };
     if found.len() != count {
         return Err(LineFault::BadField(field));
     }
@@ -114,10 +116,10 @@ pub(crate) fn parts(item: &Value, field: Field, count: usize) -> Result<&[Value]
 pub(crate) fn part(found: &[Value], place: usize, field: Field) -> Result<&str, LineFault>
     ensures { Gives (λ s. s.now) result (part place field (items_view found.now)) }
 {
-    text(
-        item_at(found, place).ok_or(LineFault::BadField(field))?,
-        field,
-    )
+    match item_at(found, place) {
+        Some(item) => text(item, field),
+        None => Err(LineFault::BadField(field)),
+    }
 }
 
 // The item at a place.

@@ -81,7 +81,9 @@ fn command_of(alloc: Global, object: &Value) -> Result<Command, LineFault>
     ensures { Answers result (command_in (view object.now)) }
 {
     let op = text_at(object, Field::Op)?;
-    let operation = Operation::named(op).ok_or(LineFault::BadField(Field::Op))?;
+    let Some(operation) = Operation::named(op) else {
+        return Err(LineFault::BadField(Field::Op));
+    };
     match operation {
         Operation::Node => node_of(alloc, object),
         Operation::Gone => gone_of(object),

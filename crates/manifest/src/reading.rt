@@ -65,7 +65,9 @@ pub(crate) fn signed(value: &Value, field: Field) -> Result<i32, LineFault>
 fn integer(value: &Value, field: Field) -> Result<&Number, LineFault>
     ensures { Gives (λ number. number_view number.now) result (integer field (view value.now)) }
 {
-    let number = value.as_number().ok_or(LineFault::BadField(field))?;
+    let Some(number) = value.as_number() else {
+        return Err(LineFault::BadField(field));
+    };
     if number.is_f64() {
         return Err(LineFault::BadField(field));
     }

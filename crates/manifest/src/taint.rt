@@ -22,7 +22,9 @@ impl Item for Taint {
         let effect = part(found, 2, field)?;
         let key = name_from(key, field)?;
         let value = text_from(value, field)?;
-        let effect = effect_named(effect).ok_or(LineFault::BadField(field))?;
+        let Some(effect) = effect_named(effect) else {
+            return Err(LineFault::BadField(field));
+        };
         if has_taint(before, &key, effect) {
             return Err(LineFault::BadField(field));
         }

@@ -1,6 +1,8 @@
 //! The tolerations of a pod.
 ghost use Rattle.std.specs.Prelude.{◌≡◌};
+ghost use Rattle.manifest.specs.Reading.{Answers};
 ghost use Rattle.manifest.specs.Rows.{toleration, operator_named, effect_or_none, lawful};
+ghost use Rattle.manifest.specs.inside.Row.{toleration_of};
 
 use crate::fault::LineFault;
 use crate::field::Field;
@@ -13,27 +15,45 @@ use serde_json::Value;
 impl Item for Toleration {
     ghost reading = { toleration };
 
-    #[tactic(auto, unfolding(crate::specs::Rows::toleration))]
+    #[tactic(auto, unfolding(crate::specs::Rows::toleration, crate::specs::inside::Row::toleration_of))]
     fn read(item: &Value, _before: &[Toleration], field: Field) -> Result<Toleration, LineFault> {
         let found = parts(item, field, 4)?;
         let key = part(found, 0, field)?;
         let operator = part(found, 1, field)?;
         let value = part(found, 2, field)?;
         let effect = part(found, 3, field)?;
-        let key = text_from(key, field)?;
-        let operator = operator_named(operator).ok_or(LineFault::BadField(field))?;
-        let value = text_from(value, field)?;
-        let effect = effect_or_none(effect).ok_or(LineFault::BadField(field))?;
-        if !is_lawful(operator, &key, &value) {
-            return Err(LineFault::BadField(field));
-        }
-        Ok(Toleration {
-            key,
-            operator,
-            value,
-            effect,
-        })
+        toleration_of(key, operator, value, effect, field)
     }
+}
+
+// A toleration of these texts.
+#[tactic(auto, unfolding(crate::specs::inside::Row::toleration_of))]
+fn toleration_of(
+    key: &str,
+    operator: &str,
+    value: &str,
+    effect: &str,
+    field: Field,
+) -> Result<Toleration, LineFault>
+    ensures { Answers result (toleration_of field key.now operator.now value.now effect.now) }
+{
+    let key = text_from(key, field)?;
+    let Some(operator) = operator_named(operator) else {
+        return Err(LineFault::BadField(field));
+    };
+    let value = text_from(value, field)?;
+    let Some(effect) = effect_or_none(effect) else {
+        return Err(LineFault::BadField(field));
+    };
+    if !is_lawful(operator, &key, &value) {
+        return Err(LineFault::BadField(field));
+    }
+    Ok(Toleration {
+        key,
+        operator,
+        value,
+        effect,
+    })
 }
 
 /// Whether there is a key, under `Equal`, or no value, under `Exists`.
