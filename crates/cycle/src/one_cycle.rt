@@ -62,6 +62,12 @@ impl From<CutShort> for RunFault {
     }
 }
 
+impl From<CutShort> for NoMemory {
+    fn from(_short: CutShort) -> Self {
+        NoMemory
+    }
+}
+
 // Fails a pod that the pass popped. That may be refused, where the pod went meanwhile.
 fn fail<J: Naming, T: Wait>(
     desk: &Desk<J>,

@@ -9,7 +9,7 @@ use Rattle.output_lines.specs.declared.named_rule.NamedRule.{NamedRule}
 use Rattle.manifest.specs.declared.command.Command.{Command}
 use Rattle.manifest.specs.declared.command.Question.{Question}
 use Rattle.manifest.specs.declared.command.Command.TheVariants as commands
-use Rattle.engine.specs.Answers.{opening, step_of, asked_of, Answered, AnsweredBy, AllAnswered}
+use Rattle.session.specs.Answers.{opening, step_of, asked_of, Answered, AnsweredBy, AllAnswered}
 use Rattle.output_lines.specs.Indented.{AreLines, without_indented}
 use Rattle.streams.specs.Lines.{lines_of}
 use Rattle.streams.specs.Script.{asked_in}

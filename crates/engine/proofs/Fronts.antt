@@ -4,7 +4,7 @@ use Rattle.std.proofs.lemmas.List.{append_assoc}
 use Rattle.output_lines.specs.Telling.{Telling}
 use Rattle.rules.specs.RuleSet.{RuleSet, SayOneThing}
 use Rattle.manifest.specs.declared.command.Command.{Command}
-use Rattle.engine.specs.Answers.{State, opening, AllAnswered}
+use Rattle.session.specs.Answers.{State, opening, AllAnswered}
 use Rattle.streams.specs.Greatest.{limits}
 use Rattle.engine.specs.Laws.{Begins, FrontsBeginOutput, FrontsAgree}
 use Rattle.cycle.proofs.OneCycle.{Agree}

@@ -11,7 +11,7 @@ use Rattle.choose.proofs.OneVerdict.{one_list, one_ruled}
 use Rattle.manifest.specs.declared.command.Command.{Command}
 use Rattle.manifest.specs.declared.command.Question.{Question}
 use Rattle.output_lines.specs.declared.named_rule.NamedRule.{NamedRule}
-use Rattle.engine.specs.Answers.{after, opening, step_of, asked_of, AnsweredBy, AllAnswered}
+use Rattle.session.specs.Answers.{after, opening, step_of, asked_of, AnsweredBy, AllAnswered}
 use Rattle.streams.specs.Greatest.{limits}
 use Rattle.output_lines.specs.Text.{cycle_line, judged_line}
 use Rattle.streams.specs.Lines.{lines_of}

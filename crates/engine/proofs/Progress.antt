@@ -10,7 +10,7 @@ use Rattle.manifest.specs.declared.command.Command.{Command}
 use Rattle.streams.specs.Device.{AppendsFront}
 use Rattle.streams.specs.inside.Device.{WritesSome}
 use Rattle.streams.specs.Lines.{lines_of, TakesLine}
-use Rattle.engine.specs.Answers.{State, opening, Answered, AllAnswered}
+use Rattle.session.specs.Answers.{State, opening, Answered, AllAnswered}
 use Rattle.streams.specs.Script.{asked_by, asked_in, fault_from}
 use Rattle.streams.specs.Script.{taken, first_fault}
 use Rattle.engine.specs.Output.{WritesOutput, WritesFront}

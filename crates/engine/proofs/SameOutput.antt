@@ -19,7 +19,7 @@ use Rattle.manifest.specs.declared.command.Question.{Question}
 use Rattle.output_lines.specs.declared.named_rule.NamedRule.{NamedRule}
 use Rattle.cycle.specs.declared.one_cycle.Cycled.{Cycled}
 use Rattle.cycle.specs.CycleAlone.{AfterPopAlone}
-use Rattle.engine.specs.Answers.{opening, step_of, asked_of, AnsweredBy, AllAnswered}
+use Rattle.session.specs.Answers.{opening, step_of, asked_of, AnsweredBy, AllAnswered}
 use Rattle.streams.specs.Lines.{lines_of}
 use Rattle.streams.specs.Script.{asked_in}
 use Rattle.streams.specs.Script.{taken}

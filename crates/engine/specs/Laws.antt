@@ -9,7 +9,7 @@ use Rattle.choose.specs.Kits.{JudgeAlike, RuleAlike}
 use Rattle.quant.specs.declared.name.Name.{Name}
 use Rattle.manifest.specs.declared.command.Command.{Command}
 use Rattle.manifest.specs.declared.command.Question.{Question}
-use Rattle.engine.specs.Answers.{asked_of}
+use Rattle.session.specs.Answers.{asked_of}
 use Rattle.streams.specs.Lines.{lines_of}
 use Rattle.streams.specs.Script.{asked_in}
 use Rattle.output_lines.specs.Text.{judged_line}

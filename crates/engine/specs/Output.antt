@@ -5,7 +5,7 @@ use Rattle.rules.specs.RuleSet.{RuleSet}
 use Rattle.manifest.specs.declared.command.Command.{Command}
 use Rattle.streams.specs.Script.{asked_in, taken}
 use Rattle.streams.specs.Lines.{lines_of}
-use Rattle.engine.specs.Answers.{State, opening, AllAnswered}
+use Rattle.session.specs.Answers.{State, opening, AllAnswered}
 use Rattle.std.specs.Io.KnownBytes.{Appends}
 
 -- the output of a script for these rules, which have these names: the answers to its lines in

@@ -3,9 +3,7 @@
 //!
 //! - `run` is the whole of it. Its source, its lines and its sink are those of `streams`, and so is
 //!   why it ends early.
-//! - The desk is one that many passes can share, with one pass (`LoneDesk` of `cycle`).
-//! - A session has that desk, and makes the text that answers a command, by the lines of
-//!   `output_lines`.
+//! - What a line asks for is done on a desk with one pass, and answered, by a `Session`.
 //! - That a script has one output, whoever runs it and with however many workers, are the laws
 //!   `one_output` and `same_output`; that an explained one is the same with lines put in is
 //!   `explained_output`, and that questions change nothing `asking_changes_nothing`.
@@ -15,7 +13,6 @@
 
 mod laws;
 mod script;
-mod session;
 
 pub use laws::{asking_changes_nothing, explained_output, one_output, same_output};
 pub use script::run;

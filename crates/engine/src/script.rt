@@ -11,14 +11,14 @@ ghost use Rattle.streams.specs.Script.{taken};
 ghost use Rattle.engine.specs.inside.Output.{IsAnswered, IsLineFault};
 ghost use Rattle.engine.specs.Run.{IsRun};
 ghost use Rattle.output_lines.specs.Telling.{telling};
-ghost use Rattle.engine.specs.Answers.{opening};
+ghost use Rattle.session.specs.Answers.{opening};
 ghost use Rattle.streams.specs.Greatest.{limits};
 
-use crate::session::Session;
 use choose::Decider;
 use desk::{Blank, Limits, Naming};
 use manifest::{Command, LineFault, read_line};
 use output_lines::NamedRule;
+use session::Session;
 use std::alloc::Global;
 use std::hash::RandomState;
 use std::marker::Brand;
@@ -89,7 +89,7 @@ fn answer_line<J: Naming, T: Wait + Threads + Sync, D: Decider>(
 ) -> Result<(), RunFault>
     requires { vec_len pending.old < MAX_PENDING }
     ensures answered { OnOk result (IsAnswered (rules_of D.Kit.answers (D.kits decider.old))
-        (telling named.now explains) (asked_by taken line.now) session.old.desk session.new.desk
+        (telling named.now explains) (asked_by taken line.now) session.old session.new
         pending.old.items pending.new.items) }
     ensures kept { OnErr result (pending.new.items ≡ pending.old.items) }
     ensures kits { D.kits decider.new ≡ D.kits decider.old }
@@ -97,7 +97,7 @@ fn answer_line<J: Naming, T: Wait + Threads + Sync, D: Decider>(
 {
     match asked_in(alloc, line) {
         Ok(None) => Ok(()),
-        Ok(Some(asked)) => session.answer(rt, named, explains, decider, asked, pending),
+        Ok(Some(asked)) => Ok(session.answer(rt, named, explains, decider, asked, pending)?),
         Err(LineFault::NoMemory) => Err(RunFault::NoMemory),
         Err(fault) => Err(RunFault::Line(number, fault)),
     }
@@ -115,7 +115,7 @@ fn run_lines<J: Naming, T: Wait + Threads + Sync, D: Decider, R: Source, W: Sink
     source: &mut R,
     sink: &mut W,
 ) -> Result<(), RunFault>
-    requires opening { session.old.desk ≡ opening }
+    requires opening { session.old ≡ opening }
     requires reads { R.failure_count source.old < 10 ^ 18 }
     requires writes { W.failure_count sink.old < 10 ^ 18 }
     requires finite { R.bytes_left source.old < 2 ^ 64 }

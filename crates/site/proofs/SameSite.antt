@@ -23,7 +23,7 @@ use Rattle.streams.specs.Script.{asked_in}
 use Rattle.streams.specs.Script.{taken}
 use Rattle.engine.specs.Output.{IsOutput, BeginsOutput}
 use Rattle.streams.specs.Lines.{lines_of}
-use Rattle.engine.specs.Answers.{State, opening, AllAnswered}
+use Rattle.session.specs.Answers.{State, opening, AllAnswered}
 use Rattle.output_lines.specs.Telling.{Telling}
 use Rattle.manifest.specs.declared.command.Command.{Command}
 use Rattle.engine.proofs.OneOutput.{one_output}

@@ -6,7 +6,7 @@ use Rattle.rules.specs.RuleSet.{RuleSet}
 use Rattle.manifest.specs.declared.command.Command.{Command}
 use Rattle.streams.specs.declared.fault.RunFault.{RunFault}
 use Rattle.streams.specs.declared.fault.RunFault.TheVariants.{Line, NoMemory}
-use Rattle.engine.specs.Answers.{State, Answered}
+use Rattle.session.specs.Answers.{State, Answered}
 
 -- what a line asks for is done and answered: nothing, where it is empty
 abbrev pub IsAnswered : RuleSet → (telling : Telling) → Result (Option Command) LineFault → State → State → List ℕ → List ℕ → Type 0

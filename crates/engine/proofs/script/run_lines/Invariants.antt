@@ -9,7 +9,7 @@ use Rattle.engine.proofs.script.run_lines.Given as goal
 -- counted than bytes were taken
 abbrev pub invariant-lines : goal.invariant-lines
 invariant-lines g l =
-    IsRunning (rules_of g.D.Kit.Rules.answers (g.D.Decider.kits l.initial.decider)) (telling l.named l.explains) (g.R.Source.remaining l.initial.source) (prepend_known l.reader (g.R.Source.remaining l.source)) (g.W.Sink.written l.initial.sink) (g.W.Sink.written l.sink) l.pending.items l.session.desk (l.number + 1)
+    IsRunning (rules_of g.D.Kit.Rules.answers (g.D.Decider.kits l.initial.decider)) (telling l.named l.explains) (g.R.Source.remaining l.initial.source) (prepend_known l.reader (g.R.Source.remaining l.source)) (g.W.Sink.written l.initial.sink) (g.W.Sink.written l.sink) l.pending.items l.session (l.number + 1)
     × (g.D.Decider.kits l.decider ≡ g.D.Decider.kits l.initial.decider)
     × (g.R.Source.failure_count l.source ≡ g.R.Source.failure_count l.initial.source)
     × (g.W.Sink.failure_count l.sink ≡ g.W.Sink.failure_count l.initial.sink)

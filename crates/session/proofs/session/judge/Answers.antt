@@ -10,8 +10,8 @@ use Rattle.choose.proofs.Verdicts.{all_zip_length}
 use Rattle.output_lines.specs.Indented.{AreLines}
 use Rattle.output_lines.specs.Telling.{ruling_lines}
 use Rattle.output_lines.specs.Text.{judged_line}
-use Rattle.engine.proofs.Nodes.{judged_by}
-use Rattle.engine.proofs.session.Session.judge.Goals as goal
+use Rattle.session.proofs.Nodes.{judged_by}
+use Rattle.session.proofs.session.judge.Goals as goal
 
 pub push_rulings-requires : goal.push_rulings-requires
 push_rulings-requires g c =
@@ -22,10 +22,10 @@ pub returns-clause-judged : goal.returns-clause-judged
 returns-clause-judged g c =
     let rules = rules_of g.D.Kit.Rules.answers (g.D.Decider.kits c.args.decider.now) in
     let named = c.args.named.now in
-    let s = c.args.self.now.desk in
+    let s = c.args.desk.now in
     let question = c.args.question.now in
     let pod = question.pod in
-    let was = c.args.self.now.text.items in
+    let was = c.args.text.now.items in
     let nodes = map shown c.rows.result.now in
     let rulings = c.verdicts.result.now in
     let many = length c.rows-2.result.now in

@@ -6,8 +6,8 @@ use Rattle.choose.specs.Kits.{rules_of}
 use Rattle.choose.proofs.Verdicts.{all_zip_length}
 use Rattle.output_lines.specs.Telling.{TellsNodes, verdict_lines}
 use Rattle.output_lines.proofs.Indented.{no_lines}
-use Rattle.engine.proofs.Nodes.{idle_cycle, placed_cycle, told, unexplained, untold}
-use Rattle.engine.proofs.session.Session.told_cycle.Goals as goal
+use Rattle.session.proofs.Nodes.{idle_cycle, placed_cycle, told, unexplained, untold}
+use Rattle.session.proofs.session.tell_cycle.Goals as goal
 
 -- ---- no pod was popped
 
@@ -52,10 +52,10 @@ returns-clause-told g c =
     let pops = rw c.in-Some.is at c.in_ok-popped.ensures.popped in
     let seen : map shown c.rows.result.now ≡ snapshot c.look.new.self.cluster =
     c.rows.ensures ∙ (c.in_ok-snapshot.ensures.shown ∙ ap (λ (s : State). snapshot s.cluster) (sym c.look.ensures.same)) in
-    let tells = told (rules_of g.D.Kit.Rules.answers (g.D.Decider.kits c.args.decider.now)) c.args.named.now c.args.explains c.args.self.now.desk _ _ _ yes pops
+    let tells = told (rules_of g.D.Kit.Rules.answers (g.D.Decider.kits c.args.decider.now)) c.args.named.now c.args.explains c.args.desk.now _ _ _ yes pops
     (c.look.ensures.same ∙ c.in_ok-popped.ensures.after) (c.in_ok-came.ensures.verdicts refl) in (
       verdict_lines c.args.named.now c.deref.result.now (map shown c.rows.result.now) c.verdicts.result.now,
-      subst (TellsNodes (rules_of g.D.Kit.Rules.answers (g.D.Decider.kits c.args.decider.now)) c.args.named.now c.args.explains c.args.self.now.desk)
+      subst (TellsNodes (rules_of g.D.Kit.Rules.answers (g.D.Decider.kits c.args.decider.now)) c.args.named.now c.args.explains c.args.desk.now)
           (λ i. verdict_lines c.args.named.now (sym c.deref.ensures i) (sym seen i) (sym c.verdicts.ensures i)) tells,
       c.in_ok-push_verdicts.ensures.lines,
       c.in_ok-push_verdicts.ensures.text,

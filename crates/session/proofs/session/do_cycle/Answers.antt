@@ -1,6 +1,6 @@
 use Rattle.std.proofs.Common.{◌∙◌, ◌++◌, ap, append_assoc, refl}
 use Rattle.output_lines.specs.Text.{cycle_line}
-use Rattle.engine.proofs.session.Session.cycle.Goals as goal
+use Rattle.session.proofs.session.do_cycle.Goals as goal
 
 -- what is told of the nodes, and then the line
 pub returns-clause-cycled : goal.returns-clause-cycled
