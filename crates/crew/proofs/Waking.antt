@@ -6,7 +6,7 @@ use Rattle.quant.specs.declared.event.Event.TheVariants.{NodeSet, NodeGone, PodP
 use Rattle.quant.specs.declared.name.Name.{Name}
 use Rattle.quant.specs.declared.version.Version.{Version}
 use Rattle.queue.specs.Calls.{NoneActive, IsNext}
-use Rattle.queue.specs.Entry.{Entry, is_active}
+use Rattle.queued.specs.Entry.{Entry, is_active}
 use Rattle.queue.specs.Queue.{QueueState, entry_of, next_of, has_entry, after_add, after_fail, after_forget, after_remove}
 use Rattle.queue.proofs.Next.{none_is_next, pops_the_first}
 use Rattle.queue.proofs.Runs.{get-without}

@@ -4,8 +4,8 @@ use Rattle.quant.specs.declared.name.Name.{Name}
 use Rattle.quant.specs.declared.objects.Pod.{Pod}
 use Rattle.book.specs.declared.refusal.Refusal.{Refusal}
 use Rattle.quant.specs.declared.version.Ticket.{Ticket}
-use Rattle.queue.specs.declared.state.Failure.{Failure}
-use Rattle.queue.specs.declared.state.Failure.TheVariants.{Unschedulable, Again}
+use Rattle.queued.specs.declared.state.Failure.{Failure}
+use Rattle.queued.specs.declared.state.Failure.TheVariants.{Unschedulable, Again}
 use Rattle.desk.specs.declared.step.Step.{Step}
 use Rattle.desk.specs.declared.step.Step.TheVariants.{Pop, Assume, Fail}
 use Rattle.desk.specs.declared.step.Reply.{Reply}

@@ -3,7 +3,7 @@ use Rattle.std.specs.Prelude.{◌≡◌, ℕ, Option, Some, None, Result, Ok, Er
 use Rattle.quant.specs.declared.name.Name.{Name}
 use Rattle.quant.specs.declared.objects.Pod.{Pod}
 use Rattle.quant.specs.declared.version.Ticket.{Ticket}
-use Rattle.queue.specs.declared.state.Failure.TheVariants.{Unschedulable, Again}
+use Rattle.queued.specs.declared.state.Failure.TheVariants.{Unschedulable, Again}
 use Rattle.book.specs.declared.refusal.Refusal.{Refusal}
 use Rattle.desk.specs.declared.step.Step.TheVariants.{Pop, Assume, Fail}
 use Rattle.desk.specs.Machine.{State, reply, after, snapshot, first_pod, given}

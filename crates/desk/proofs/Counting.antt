@@ -10,7 +10,7 @@ use Rattle.std.specs.FinMap.{FinMap}
 use Rattle.std.specs.FinMap.Entries.{below_all}
 use Rattle.std.proofs.lemmas.List.Sums.{sum_by-cons}
 use Rattle.quant.specs.declared.name.Name.{Name}
-use Rattle.queue.specs.Entry.{Entry as QueueEntry, is_in_flight}
+use Rattle.queued.specs.Entry.{Entry as QueueEntry, is_in_flight}
 use Rattle.queue.specs.Order.{Item}
 use Rattle.queue.specs.Queue.{entry_of, counts_of}
 use Rattle.book.specs.declared.place.Place.{Place}

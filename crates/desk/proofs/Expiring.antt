@@ -7,7 +7,7 @@ use Rattle.std.specs.Cmp.Lexicographic.{nat_list_cmp_total, bytes_decides}
 use Rattle.std.specs.FinMap as fin
 use Rattle.quant.specs.declared.amount.Moment.{Moment}
 use Rattle.quant.specs.declared.name.Name.{Name}
-use Rattle.queue.specs.Entry.{Entry, is_in_flight, sent_back}
+use Rattle.queued.specs.Entry.{Entry, is_in_flight, sent_back}
 use Rattle.queue.specs.Order.{Item}
 use Rattle.queue.specs.Queue as queue
 use Rattle.queue.specs.Queue.{QueueState, entry_of, unless_refused, with_entry, with_change, refusal_to_forget, after_forget}

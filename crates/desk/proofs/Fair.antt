@@ -13,8 +13,8 @@ use Rattle.quant.specs.declared.objects.Pod.{Pod}
 use Rattle.quant.specs.declared.version.Ticket.{Ticket}
 use Rattle.fit.specs.Fit.{fit_of}
 use Rattle.fit.specs.declared.room.Shortage.{Shortage}
-use Rattle.queue.specs.declared.state.PassNumber.{PassNumber}
-use Rattle.queue.specs.Entry.{Entry as QueueEntry, is_in_flight_for}
+use Rattle.queued.specs.declared.state.PassNumber.{PassNumber}
+use Rattle.queued.specs.Entry.{Entry as QueueEntry, is_in_flight_for}
 use Rattle.queue.specs.Queue.{entry_of}
 use Rattle.book.specs.declared.limits.Limits.{Limits}
 use Rattle.book.specs.declared.refusal.Refusal.{Refusal}

@@ -4,10 +4,10 @@ use Rattle.std.specs.Option.{option_map}
 use Rattle.quant.specs.declared.amount.Moment.{Moment}
 use Rattle.quant.specs.declared.name.Name.{Name}
 use Rattle.quant.specs.declared.objects.Pod.{Pod}
-use Rattle.queue.specs.declared.state.PassNumber.{PassNumber}
-use Rattle.queue.specs.declared.state.Failure.{Failure}
+use Rattle.queued.specs.declared.state.PassNumber.{PassNumber}
+use Rattle.queued.specs.declared.state.Failure.{Failure}
 use Rattle.queue.specs.declared.refusal.Refusal.{Refusal}
-use Rattle.queue.specs.Entry.{Entry, new_entry, is_in_flight, failed, sent_back, popped, ticked, moved_on}
+use Rattle.queued.specs.Entry.{Entry, new_entry, is_in_flight, failed, sent_back, popped, ticked, moved_on}
 use Rattle.queue.specs.Order.{Item}
 use Rattle.queue.specs.Queue.{QueueState, entry_of, has_entry, is_full_queue, all_changed, with_entry, with_change, changed_at, with_popped, unless_refused, refusal_to_add, refusal_to_fail, refusal_to_forget, next_of, after_add, after_fail, after_forget, after_tick, after_move, after_remove}
 use Rattle.queue.specs.Calls.{IsNext, NoneActive}

@@ -12,12 +12,12 @@ use Rattle.quant.specs.declared.name.Name.{Name}
 use Rattle.quant.specs.declared.objects.Pod.{Pod}
 use Rattle.quant.specs.declared.version.Ticket.{Ticket}
 use Rattle.quant.specs.declared.version.Version.{Version}
-use Rattle.queue.specs.declared.state.PassNumber.{PassNumber}
-use Rattle.queue.specs.declared.state.Failure.{Failure}
-use Rattle.queue.specs.declared.state.Failure.TheVariants as failure
-use Rattle.queue.specs.declared.state.State.{State as QueueStanding}
-use Rattle.queue.specs.declared.state.State.TheVariants.{Active, Backoff, Unschedulable, InFlight}
-use Rattle.queue.specs.Entry.{Entry as QueueEntry, new_entry, is_active, is_in_flight, is_in_flight_for, failed, sent_back, popped as popped_entry, ticked, moved_on, state_after_tick, state_after_move, state_after_failure, was_moved, backed_off}
+use Rattle.queued.specs.declared.state.PassNumber.{PassNumber}
+use Rattle.queued.specs.declared.state.Failure.{Failure}
+use Rattle.queued.specs.declared.state.Failure.TheVariants as failure
+use Rattle.queued.specs.declared.state.State.{State as QueueStanding}
+use Rattle.queued.specs.declared.state.State.TheVariants.{Active, Backoff, Unschedulable, InFlight}
+use Rattle.queued.specs.Entry.{Entry as QueueEntry, new_entry, is_active, is_in_flight, is_in_flight_for, failed, sent_back, popped as popped_entry, ticked, moved_on, state_after_tick, state_after_move, state_after_failure, was_moved, backed_off}
 use Rattle.queue.specs.Order.{Item}
 use Rattle.queue.specs.Queue as queue
 use Rattle.queue.specs.Queue.{QueueState, entry_of, has_entry, holds_in_flight, is_full_queue, all_changed, with_entry, with_change, with_popped, unless_refused, refusal_to_add, refusal_to_fail as why_not_fail, refusal_to_forget, next_of, after_add, after_pop, after_fail, after_forget, after_tick, after_move, after_remove}

@@ -15,8 +15,8 @@ use Rattle.quant.specs.declared.objects.Node.{Node}
 use Rattle.quant.specs.declared.objects.Pod.{Pod}
 use Rattle.quant.specs.declared.version.Ticket.{Ticket}
 use Rattle.quant.specs.declared.version.Version.{Version}
-use Rattle.queue.specs.declared.state.PassNumber.{PassNumber}
-use Rattle.queue.specs.Entry.{Entry as QueueEntry, is_in_flight_for}
+use Rattle.queued.specs.declared.state.PassNumber.{PassNumber}
+use Rattle.queued.specs.Entry.{Entry as QueueEntry, is_in_flight_for}
 use Rattle.queue.specs.Order.{Item}
 use Rattle.queue.specs.Queue.{QueueState, entry_of, has_entry, is_full_queue, next_of, with_popped, after_add, after_pop, after_fail, after_forget, after_move, after_remove}
 use Rattle.book.specs.declared.place.Place.{Place}
@@ -24,7 +24,7 @@ use Rattle.book.specs.declared.place.Status.{Status}
 use Rattle.book.specs.declared.place.Status.TheVariants.{Assumed, Bound}
 use Rattle.book.specs.declared.refusal.Refusal.{Refusal}
 use Rattle.book.specs.declared.refusal.Refusal.TheVariants as refusals
-use Rattle.queue.specs.declared.state.Failure.{Failure}
+use Rattle.queued.specs.declared.state.Failure.{Failure}
 use Rattle.quant.specs.declared.amount.Moment.{Moment}
 use Rattle.book.specs.declared.entry.Entry.{Entry}
 use Rattle.book.specs.declared.entry.Entry.TheVariants.{Missing, Elsewhere, Held}

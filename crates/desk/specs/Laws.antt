@@ -8,9 +8,9 @@ use Rattle.std.specs.FinMap.{entries, get}
 use Rattle.quant.specs.declared.event.Event.TheVariants.{PodBound, PodGone}
 use Rattle.quant.specs.declared.name.Name.{Name}
 use Rattle.quant.specs.declared.version.Ticket.{Ticket}
-use Rattle.queue.specs.declared.state.State.{State as QueueStanding}
-use Rattle.queue.specs.declared.state.State.TheVariants.{InFlight}
-use Rattle.queue.specs.Entry.{Entry}
+use Rattle.queued.specs.declared.state.State.{State as QueueStanding}
+use Rattle.queued.specs.declared.state.State.TheVariants.{InFlight}
+use Rattle.queued.specs.Entry.{Entry}
 use Rattle.queue.specs.Queue.{entry_of, has_entry, has_in_flight, counts_of}
 use Rattle.book.specs.declared.limits.Limits.{Limits}
 use Rattle.book.specs.Step.{is_placed, is_bound, stands}

@@ -27,8 +27,8 @@ use Rattle.quant.specs.declared.objects.Pod.{Pod}
 use Rattle.quant.specs.declared.version.Ticket.{Ticket}
 use Rattle.quant.specs.declared.event.Event.{Event as Watched}
 use Rattle.quant.specs.declared.event.Event.TheVariants.{NodeSet, NodeGone, PodPending, PodBound, PodGone}
-use Rattle.queue.specs.declared.state.PassNumber.{PassNumber}
-use Rattle.queue.specs.Entry.{Entry as QueueEntry, is_in_flight, is_in_flight_for, sent_back}
+use Rattle.queued.specs.declared.state.PassNumber.{PassNumber}
+use Rattle.queued.specs.Entry.{Entry as QueueEntry, is_in_flight, is_in_flight_for, sent_back}
 use Rattle.queue.specs.Queue.{QueueState, no_entries, entry_of, has_entry, is_full_queue, holds_in_flight, next_of, counts_of, after_add, after_pop, after_fail, after_forget, after_tick, after_move, after_remove}
 use Rattle.book.specs.Cluster as book
 use Rattle.book.specs.Step as book_step

@@ -11,7 +11,7 @@ use Rattle.quant.specs.declared.version.Ticket.{Ticket}
 use Rattle.quant.specs.declared.version.Version.{Version}
 use Rattle.quant.specs.declared.event.Event.{Event as Watched}
 use Rattle.quant.specs.declared.event.Event.TheVariants.{NodeSet, NodeGone, PodPending, PodBound, PodGone}
-use Rattle.queue.specs.Entry.{Entry}
+use Rattle.queued.specs.Entry.{Entry}
 use Rattle.queue.specs.Queue.{QueueState, entry_of, has_entry, is_full_queue, after_add, after_fail, after_forget, after_move, after_pop, after_remove, next_of}
 use Rattle.book.specs.Cluster.{name_cmp}
 use Rattle.book.specs.Expiry.{any_expired}
@@ -29,7 +29,7 @@ use Rattle.desk.proofs.Deciding.{first_three}
 use Rattle.desk.proofs.Pods.{pod_at, turned, same_of, pod_added, pod_expired, pod_failed, pod_forgotten, pod_moved, pod_popped, pod_removed, pod_ticked}
 use Rattle.live_desk.specs.declared.offered.Offered.{Offered}
 use Rattle.rules.specs.RuleSet.{RuleSet}
-use Rattle.queue.specs.declared.state.Failure.TheVariants.{Unschedulable, Again}
+use Rattle.queued.specs.declared.state.Failure.TheVariants.{Unschedulable, Again}
 use Rattle.book.specs.declared.limits.Limits.{Limits}
 use Rattle.choose.specs.declared.decision.Decision.{Decision}
 use Rattle.choose.specs.declared.decision.Decision.TheVariants as decisions

@@ -17,14 +17,16 @@ use Rattle.quant.specs.declared.name.Name.{Name}
 use Rattle.name_table.specs.Slots.{entry_in, value_in, with_value, put_in, map_of, NamesOnce}
 use Rattle.name_table.specs.inside.Slots.{number_in}
 use Rattle.name_table.proofs.SlotLemmas.{map_at, map_put, slot_with, once_put}
-use Rattle.queue.specs.declared.state.State.{State}
-use Rattle.queue.specs.declared.state.State.TheVariants.{Active, Backoff, Unschedulable, InFlight}
+use Rattle.queued.specs.declared.state.State.{State}
+use Rattle.queued.specs.declared.state.State.TheVariants.{Active, Backoff, Unschedulable, InFlight}
 use Rattle.queue.specs.declared.index.Index.{Index}
-use Rattle.queue.specs.Entry.{Entry, backed_off, ticked, moved_on, state_after_tick, state_after_move, is_backoff, is_unschedulable}
+use Rattle.queued.specs.Entry.{Entry, backed_off, ticked, moved_on, state_after_tick, state_after_move, is_backoff, is_unschedulable}
 use Rattle.queue.specs.Queue.{Entries, each_changed}
 use Rattle.queue.specs.inside.Row.{SlotRow, at, IsIn}
-use Rattle.queue.specs.inside.Heap.{Pods, moment_of, wait_cmp, item_in, goes_before, IsHeap}
-use Rattle.queue.specs.inside.Index.{stands_in, is_unmarked, is_due, is_unmoved, kept_with, changed_in, Lists, IsIndex}
+use Rattle.queue.specs.inside.Heap.{Pods, wait_cmp, item_in, goes_before, IsHeap}
+use Rattle.queued.specs.Change.{moment_of}
+use Rattle.queue.specs.inside.Index.{stands_in, is_unmarked, is_unmoved, kept_with, changed_in, Lists, IsIndex}
+use Rattle.queued.specs.Change.{is_due}
 use Rattle.queue.specs.inside.Slots.{OwnUids, one_if}
 use Rattle.queue.proofs.Uids.{same, same_is}
 use Rattle.queue.proofs.Tables.{same_entries, get-each_changed}

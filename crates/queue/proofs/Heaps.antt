@@ -3,14 +3,15 @@ use Rattle.std.proofs.Common.{◌≡◌, ℕ, zero, suc, ◌+◌, ◌-◌, ◌*�
 use Rattle.std.specs.Prelude.{◌≢◌, IsSome}
 use Rattle.name_table.specs.declared.entry.Entry.{Entry as Named}
 use Rattle.name_table.specs.Slots.{entry_in}
-use Rattle.queue.specs.Entry.{Entry}
+use Rattle.queued.specs.Entry.{Entry}
 use Rattle.std.specs.Cmp.{IsTotalOrder, IsStrictWeakOrder}
 use Rattle.std.specs.Cmp.Lexicographic.{options_total}
 use Rattle.std.proofs.lemmas.Cmp.{on_total, then_total, nat_cmp_total}
 use Rattle.std.proofs.lemmas.List.MinMax.{ranks_by}
 use Rattle.queue.specs.Order.{Item}
 use Rattle.queue.specs.inside.Row.{at, IsSwapped, IsPushed}
-use Rattle.queue.specs.inside.Heap.{Pods, moment_of, wait_cmp, item_in, goes_before, IsHeap, GoesFirst, IsHeapBut}
+use Rattle.queue.specs.inside.Heap.{Pods, wait_cmp, item_in, goes_before, IsHeap, GoesFirst, IsHeapBut}
+use Rattle.queued.specs.Change.{moment_of}
 use Rattle.queue.proofs.Ranks.{item_laws}
 use Rattle.queue.proofs.Rows.{same_or_not}
 

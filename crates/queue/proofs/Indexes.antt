@@ -6,12 +6,12 @@ use Rattle.std.specs.Ordering.{is_lt}
 use Rattle.std.proofs.lemmas.Bool.{cases_lt}
 use Rattle.std.proofs.lemmas.List.{get_or_past, get_or-set_other, length-set, length-replicate}
 use Rattle.name_table.specs.Slots.{entry_in}
-use Rattle.queue.specs.declared.state.State.{State}
-use Rattle.queue.specs.declared.state.State.TheVariants.{Active, Backoff, Unschedulable, InFlight}
-use Rattle.queue.specs.declared.state.PassNumber.{PassNumber}
+use Rattle.queued.specs.declared.state.State.{State}
+use Rattle.queued.specs.declared.state.State.TheVariants.{Active, Backoff, Unschedulable, InFlight}
+use Rattle.queued.specs.declared.state.PassNumber.{PassNumber}
 use Rattle.quant.specs.declared.amount.Moment.{Moment}
 use Rattle.queue.specs.declared.index.Index.{Index}
-use Rattle.queue.specs.Entry.{Entry, is_active, is_backoff, is_unschedulable, is_in_flight}
+use Rattle.queued.specs.Entry.{Entry, is_active, is_backoff, is_unschedulable, is_in_flight}
 use Rattle.queue.specs.inside.Row.{SlotRow, at, IsIn, IsWithout, IsWith}
 use Rattle.queue.specs.inside.Heap.{Pods, wait_cmp, item_in, goes_before, AllThere, IsHeap}
 use Rattle.queue.specs.inside.Index.{state_in, stands_in, is_unmarked, Lists, ListsBut, IsIndex, IsIndexBut}

@@ -1,4 +1,3 @@
-pub mod BackoffLemmas
 pub mod Uids
 pub mod Tables
 pub mod Ranks

@@ -9,7 +9,7 @@ use Rattle.std.specs.declared.cmp.Ordering.{Ordering}
 use Rattle.std.specs.declared.cmp.Ordering.TheVariants.{Less, Equal, Greater}
 use Rattle.std.specs.Cmp.Lexicographic.{slice_cmp}
 use Rattle.quant.specs.declared.name.Name.{Name}
-use Rattle.queue.specs.Entry.{Entry}
+use Rattle.queued.specs.Entry.{Entry}
 use Rattle.queue.specs.Order.{Item}
 use Rattle.queue.proofs.Uids.{same, same_laws, same_is, left_part, right_part, both_parts}
 

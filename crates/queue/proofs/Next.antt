@@ -5,7 +5,7 @@ use Rattle.std.specs.FinMap as table
 use Rattle.std.specs.Ordering.{nat_cmp}
 use Rattle.std.specs.Cmp.Lexicographic.{slice_cmp}
 use Rattle.quant.specs.declared.name.Name.{Name}
-use Rattle.queue.specs.Entry.{Entry, is_active}
+use Rattle.queued.specs.Entry.{Entry, is_active}
 use Rattle.queue.specs.Order.{Item, comes_before, is_next, next_item}
 use Rattle.queue.specs.Queue.{QueueState, entry_of, next_of}
 use Rattle.queue.specs.Calls.{NoneActive, IsNext, PopsTheFirst, OnlyOneIsNext}

@@ -8,12 +8,12 @@ use Rattle.std.proofs.lemmas.List.Elements.{Contains-append_cases}
 use Rattle.std.proofs.lemmas.Bool.Decides.{nat_tests}
 use Rattle.quant.specs.declared.amount.Moment.{Moment}
 use Rattle.quant.specs.declared.name.Name.{Name}
-use Rattle.queue.specs.declared.state.PassNumber.{PassNumber}
-use Rattle.queue.specs.declared.state.State.{State}
-use Rattle.queue.specs.declared.state.State.TheVariants.{Active, Backoff, Unschedulable, InFlight}
+use Rattle.queued.specs.declared.state.PassNumber.{PassNumber}
+use Rattle.queued.specs.declared.state.State.{State}
+use Rattle.queued.specs.declared.state.State.TheVariants.{Active, Backoff, Unschedulable, InFlight}
 use Rattle.queue.specs.declared.refusal.Refusal.{Refusal}
 use Rattle.queue.specs.declared.refusal.Refusal.TheVariants.{Known, NotInFlight}
-use Rattle.queue.specs.Entry.{Entry, new_entry, is_active, is_in_flight_for, popped, sent_back, failed, ticked, moved_on, state_after_tick, state_after_move}
+use Rattle.queued.specs.Entry.{Entry, new_entry, is_active, is_in_flight_for, popped, sent_back, failed, ticked, moved_on, state_after_tick, state_after_move}
 use Rattle.queue.specs.Order.{Item}
 use Rattle.queue.specs.Queue.{after_move, after_tick, after_forget, after_fail, after_pop, after_add, QueueState, Entries, entry_of, has_entry, stands, holds_in_flight, next_of, with_entry, with_change, changed_at, with_popped, all_changed, unless_refused, refusal_to_add, refusal_to_fail, refusal_to_forget, after_remove}
 use Rattle.queue.specs.Calls.{Call, Add, Pop, Fail, ForgetBack, Tick, MoveAll, Remove, after, after_all, popped_by, all_popped, gives_back, takes_out, NoneActive, IsNext, PopsOnce, TicksOnce, LosesNone}

@@ -13,17 +13,18 @@ use Rattle.name_table.specs.Slots.{entry_in, name_in, value_in, filled, map_of, 
 use Rattle.name_table.proofs.FreeLemmas.{free_sum}
 use Rattle.name_table.proofs.SlotLemmas.{map_at, slot_with, len_map, sum_map}
 use Rattle.std.proofs.lemmas.List.Sums.{count_by-le-length}
-use Rattle.queue.specs.declared.state.State.{State}
-use Rattle.queue.specs.declared.state.State.TheVariants.{Active, Backoff, Unschedulable, InFlight}
-use Rattle.queue.specs.declared.state.PassNumber.{PassNumber}
+use Rattle.queued.specs.declared.state.State.{State}
+use Rattle.queued.specs.declared.state.State.TheVariants.{Active, Backoff, Unschedulable, InFlight}
+use Rattle.queued.specs.declared.state.PassNumber.{PassNumber}
 use Rattle.queue.specs.declared.index.Index.{Index}
 use Rattle.queue.specs.declared.refusal.Refusal.{Refusal}
 use Rattle.queue.specs.declared.refusal.Refusal.TheVariants.{Known, Full, NotInFlight}
-use Rattle.queue.specs.Entry.{Entry, new_entry, is_active, is_backoff, is_unschedulable, is_in_flight, is_in_flight_for, popped}
+use Rattle.queued.specs.Entry.{Entry, new_entry, is_active, is_backoff, is_unschedulable, is_in_flight, is_in_flight_for, popped}
 use Rattle.queue.specs.Order.{item_cmp, comes_before}
 use Rattle.queue.specs.Queue.{no_entries, counts_of, QueueState, IsQueue, entry_of, has_entry, is_full_queue, stands, next_of, with_entry, with_change, changed_at, with_popped, unless_refused, refusal_to_add, after_add, after_pop, after_remove}
 use Rattle.queue.specs.inside.Row.{at, IsIn}
-use Rattle.queue.specs.inside.Heap.{Pods, moment_of, wait_cmp, item_in, goes_before}
+use Rattle.queue.specs.inside.Heap.{Pods, wait_cmp, item_in, goes_before}
+use Rattle.queued.specs.Change.{moment_of}
 use Rattle.queue.specs.inside.Index.{stands_in, kept_with, changed_in, IsIndex, IsIndexBut}
 use Rattle.queue.specs.inside.Slots.{state_of, OwnUids, IsKept, one_if, counts_so_far}
 use Rattle.queue.proofs.Rows.{same_or_not}

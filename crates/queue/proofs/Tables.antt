@@ -6,7 +6,7 @@ use Rattle.std.specs.FinMap.{slice_cmp-IsAntisymmetric, nat_cmp-IsAntisymmetric}
 use Rattle.std.specs.Ordering.{nat_cmp}
 use Rattle.std.specs.Cmp.Lexicographic.{slice_cmp, nat_list_cmp_total}
 use Rattle.quant.specs.declared.name.Name.{Name}
-use Rattle.queue.specs.Entry.{Entry}
+use Rattle.queued.specs.Entry.{Entry}
 use Rattle.queue.specs.Order.{Item}
 use Rattle.queue.specs.Queue.{Entries, each_changed}
 use Rattle.queue.proofs.Uids.{same}

@@ -6,9 +6,9 @@ use Rattle.std.specs.Cmp.Lexicographic.{slice_cmp}
 use Rattle.quant.specs.declared.amount.Moment.{Moment}
 use Rattle.quant.specs.declared.name.Name.{Name}
 use Rattle.quant.specs.declared.objects.Pod.{Pod}
-use Rattle.queue.specs.declared.state.PassNumber.{PassNumber}
-use Rattle.queue.specs.declared.state.Failure.{Failure}
-use Rattle.queue.specs.Entry.{is_active}
+use Rattle.queued.specs.declared.state.PassNumber.{PassNumber}
+use Rattle.queued.specs.declared.state.Failure.{Failure}
+use Rattle.queued.specs.Entry.{is_active}
 use Rattle.queue.specs.Order.{Item, comes_before}
 use Rattle.queue.specs.Queue.{QueueState, entry_of, has_entry, next_of, after_add, after_pop, after_fail, after_forget, after_tick, after_move, after_remove}
 

@@ -1,4 +1,3 @@
-pub mod Entry
 pub mod Order
 pub mod Refusal
 pub mod Queue

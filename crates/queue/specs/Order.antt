@@ -5,7 +5,7 @@ use Rattle.std.specs.Ordering.{nat_cmp, int_cmp, is_lt, ordering_then}
 use Rattle.std.specs.declared.cmp.Ordering.{Ordering}
 use Rattle.std.specs.Cmp.Lexicographic.{slice_cmp}
 use Rattle.quant.specs.declared.name.Name.{Name}
-use Rattle.queue.specs.Entry.{Entry, is_active}
+use Rattle.queued.specs.Entry.{Entry, is_active}
 
 -- an entry, beside the uid that it is kept under
 abbrev pub Item : Type 0

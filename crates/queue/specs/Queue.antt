@@ -7,12 +7,12 @@ use Rattle.quant.specs.declared.amount.Moment.{Moment}
 use Rattle.quant.specs.declared.limits.TheConstants.{MAX_QUEUED}
 use Rattle.quant.specs.declared.name.Name.{Name}
 use Rattle.quant.specs.declared.objects.Pod.{Pod}
-use Rattle.queue.specs.declared.state.PassNumber.{PassNumber}
-use Rattle.queue.specs.declared.state.Failure.{Failure}
+use Rattle.queued.specs.declared.state.PassNumber.{PassNumber}
+use Rattle.queued.specs.declared.state.Failure.{Failure}
 use Rattle.queue.specs.declared.refusal.Refusal.{Refusal}
 use Rattle.queue.specs.declared.refusal.Refusal.TheVariants.{Known, Full, NotInFlight}
 use Rattle.queue.specs.declared.counts.Counts.{Counts}
-use Rattle.queue.specs.Entry.{Entry, new_entry, is_active, is_backoff, is_unschedulable, is_in_flight, is_in_flight_for, popped, sent_back, failed, ticked, moved_on}
+use Rattle.queued.specs.Entry.{Entry, new_entry, is_active, is_backoff, is_unschedulable, is_in_flight, is_in_flight_for, popped, sent_back, failed, ticked, moved_on}
 use Rattle.queue.specs.Order.{Item, next_item}
 
 -- the entries, each under its pod's uid

@@ -1,4 +1,3 @@
-pub mod Entry
 pub mod Slots
 pub mod Row
 pub mod Heap

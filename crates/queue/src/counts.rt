@@ -3,7 +3,7 @@
 ghost use Rattle.std.specs.Prelude.{◌≡◌, ◌+◌, ◌<◌, ◌^◌};
 ghost use Rattle.queue.specs.inside.Slots.{counted, total_of};
 
-use crate::state::State;
+use queued::State;
 
 /// The number of entries in each state.
 #[derive(Clone, Copy, Default, PartialEq, Eq)]

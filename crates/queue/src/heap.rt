@@ -6,8 +6,8 @@ ghost use Rattle.queue.specs.inside.Row.{at, IsIn, HasSame, IsWithout, IsWith};
 ghost use Rattle.queue.specs.inside.Heap.{wait_cmp, goes_before, AllThere, IsHeap, GoesFirst, IsHeapBut};
 
 use crate::row::Row;
-use crate::slot::Slot;
 use name_table::{Entry, NameTable};
+use queued::Slot;
 use std::cmp::Ordering;
 
 /// How two entries go: by the moment that they wait for, then as they are popped.

@@ -2,17 +2,17 @@
 ghost use Rattle.std.specs.Prelude.{◌≡◌, ℕ, ◌+◌, ◌<◌, ◌≤◌, ◌⊎◌, true, false, None, Some, IfOk, IfSome, IfNone, IsSome, IsTrue, length, replicate};
 ghost use Rattle.quant.specs.declared.limits.TheConstants.{MAX_QUEUED};
 ghost use Rattle.name_table.specs.Slots.{entry_in};
-ghost use Rattle.queue.specs.Entry.{Entry, is_in_flight};
+ghost use Rattle.queued.specs.Entry.{Entry, is_in_flight};
 ghost use Rattle.queue.specs.inside.Row.{at, IsIn};
 ghost use Rattle.queue.specs.inside.Heap.{AllThere};
-ghost use Rattle.queue.specs.inside.Index.{state_in, stands_in, is_due, IsEnd, IsIndex, IsIndexBut};
+ghost use Rattle.queue.specs.inside.Index.{state_in, stands_in, IsEnd, IsIndex, IsIndexBut};
+ghost use Rattle.queued.specs.Change.{is_due};
 
 use crate::heap::{insert, remove};
 use crate::row::Row;
-use crate::slot::Slot;
-use crate::state::State;
 use name_table::NameTable;
 use quant::Moment;
+use queued::{Slot, State};
 use std::alloc::{AllocError, Global};
 
 /// The slots of a queue by where their pods stand. Each slot knows its place in its row.

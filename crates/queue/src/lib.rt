@@ -23,12 +23,10 @@ mod laws;
 mod queue;
 mod refusal;
 mod row;
-mod slot;
 mod slots;
-mod state;
 
 pub use counts::Counts;
 pub use laws::{loses_none, pops_once, pops_the_first, ticks_once};
 pub use queue::Queue;
+pub use queued::{Failure, PassNumber, State};
 pub use refusal::Refusal;
-pub use state::{Failure, PassNumber, State};

@@ -6,11 +6,10 @@ ghost use Rattle.queue.specs.Queue.{no_entries, entry_of, has_entry, is_full_que
 use crate::counts::Counts;
 use crate::index::Index;
 use crate::refusal::Refusal;
-use crate::slot::{Change, Slot};
 use crate::slots::{change, count_each, move_each, tick_each};
-use crate::state::{Failure, PassNumber, State};
 use name_table::NameTable;
 use quant::{LATEST_MOMENT, MAX_QUEUED, Moment, Name, SharedPod};
+use queued::{Change, Failure, PassNumber, Slot, State};
 use std::alloc::{AllocError, Global};
 use std::hash::RandomState;
 use std::marker::Model;
@@ -29,7 +28,7 @@ impl Model for Queue {
     ghost use Rattle.std.specs.Prelude.{ℕ, refl};
     ghost use Rattle.std.specs.Coded.{code_by, coded×, coded_ℕ, coded_list};
     ghost use Rattle.std.specs.FinMap as table;
-    ghost use Rattle.queue.specs.contracts.slot.Slot as slot;
+    ghost use Rattle.queued.specs.contracts.slot.Slot as slot;
     ghost use Rattle.queue.specs.Queue.{QueueState, Entries};
     ghost use Rattle.queue.specs.inside.Slots.{state_of, IsKept};
 

@@ -2,16 +2,17 @@
 ghost use Rattle.std.specs.Prelude.{◌≡◌, ◌≤◌, true, length, IsSome};
 ghost use Rattle.quant.specs.declared.limits.TheConstants.{MAX_QUEUED};
 ghost use Rattle.name_table.specs.Slots.{entry_in, map_of, NamesOnce};
-ghost use Rattle.queue.specs.Entry.{is_in_flight, ticked, moved_on};
+ghost use Rattle.queued.specs.Entry.{is_in_flight, ticked, moved_on};
 ghost use Rattle.queue.specs.Queue.{each_changed};
-ghost use Rattle.queue.specs.inside.Index.{stands_in, IsIndex, applied, IsTimelyChange, changed_in};
+ghost use Rattle.queue.specs.inside.Index.{stands_in, IsIndex, changed_in};
+ghost use Rattle.queued.specs.Change.{applied, IsTimelyChange};
 ghost use Rattle.queue.specs.inside.Slots.{OwnUids, counts_so_far};
 
 use crate::counts::Counts;
 use crate::index::Index;
-use crate::slot::{Change, Slot};
 use name_table::{Entry, NameTable};
 use quant::Moment;
+use queued::{Change, Slot};
 
 /// The pod in a slot changes, and with it where the slot stands. It answers how many entries were
 /// compared.

@@ -8,7 +8,7 @@ use Rattle.quant.specs.contracts.amount.Moment as moment
 use Rattle.quant.specs.declared.objects.Node.{Node}
 use Rattle.quant.specs.declared.amount.Res.{Res}
 use Rattle.quant.specs.declared.amount.Moment.{Moment}
-use Rattle.queue.specs.contracts.slot.Slot as slot
+use Rattle.queued.specs.contracts.slot.Slot as slot
 use Rattle.queue.specs.Queue.{QueueState, Entries}
 use Rattle.book.specs.Cluster.{Cluster}
 use Rattle.book.specs.inside.Codes.{cluster_code}

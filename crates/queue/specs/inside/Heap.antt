@@ -4,22 +4,15 @@ use Rattle.std.specs.Ordering.{nat_cmp, is_lt, ordering_then}
 use Rattle.std.specs.Option.{option_cmp}
 use Rattle.std.specs.declared.cmp.Ordering.{Ordering}
 use Rattle.name_table.specs.Slots.{Slots, entry_in}
-use Rattle.queue.specs.declared.state.State.{State}
-use Rattle.queue.specs.declared.state.State.TheVariants.{Active, Backoff, Unschedulable, InFlight}
-use Rattle.queue.specs.Entry.{Entry}
+use Rattle.queued.specs.declared.state.State.{State}
+use Rattle.queued.specs.Entry.{Entry}
+use Rattle.queued.specs.Change.{moment_of}
 use Rattle.queue.specs.Order.{Item, item_cmp}
 use Rattle.queue.specs.inside.Row.{at, IsIn}
 
 -- the slots of a queue
 abbrev pub Pods : Type 0
 Pods = Slots Entry
-
--- the moment that a pod waits for, or has waited since
-abbrev pub moment_of : State → ℕ
-moment_of Active = 0
-moment_of (Backoff until) = until.0
-moment_of (Unschedulable since) = since.0
-moment_of (InFlight pass moved) = 0
 
 -- the order of every heap: by that moment, then as they are popped
 abbrev pub wait_cmp : Item → Item → Ordering

@@ -1,15 +1,13 @@
 -- Which slots stand where.
-use Rattle.std.specs.Prelude.{◌≡◌, ◌≢◌, ℕ, ◌+◌, ◌<◌, nat_le, None, Some, Bool, true, false, ◌≤◌, List, length, Option, option_map, slice_set}
+use Rattle.std.specs.Prelude.{◌≡◌, ◌≢◌, ℕ, ◌+◌, ◌<◌, None, Some, Bool, true, false, ◌≤◌, List, length, Option, option_map, slice_set}
 use Rattle.std.specs.Option.{option_map_or}
 use Rattle.name_table.specs.declared.entry.Entry.{Entry as Named}
 use Rattle.name_table.specs.Slots.{entry_in}
-use Rattle.quant.specs.declared.amount.Moment.{Moment}
-use Rattle.queue.specs.declared.state.State.{State}
-use Rattle.queue.specs.declared.state.State.TheVariants.{Active, Backoff, Unschedulable, InFlight}
+use Rattle.queued.specs.declared.state.State.{State}
+use Rattle.queued.specs.declared.state.State.TheVariants.{Unschedulable, InFlight}
 use Rattle.queue.specs.declared.index.Index.{Index}
-use Rattle.queue.specs.declared.slot.Change.{Change}
-use Rattle.queue.specs.declared.slot.Change.TheVariants.{Pop, SendBack, Fail, Tick, Move}
-use Rattle.queue.specs.Entry.{Entry, is_active, is_backoff, is_unschedulable, popped, sent_back, failed, ticked, moved_on}
+use Rattle.queued.specs.declared.slot.Change.{Change}
+use Rattle.queued.specs.Entry.{Entry, is_active, is_backoff, is_unschedulable}
 use Rattle.queue.specs.inside.Row.{SlotRow, at, IsIn}
 use Rattle.queue.specs.inside.Heap.{Pods, IsHeap}
 
@@ -59,20 +57,6 @@ pub record IsIndexBut (pods : Pods) (index : Index) (s : ℕ) : Type 0 where
   pub by_end : IsHeap pods index.backoff.slots
   pub by_failure : IsHeap pods index.unschedulable.slots
 
--- what a change makes of an entry
-abbrev pub applied : Change → Entry → Entry
-applied (Pop pass) entry = popped pass entry
-applied (SendBack now) entry = sent_back now entry
-applied (Fail how now) entry = failed how now entry
-applied (Tick now) entry = ticked now entry
-applied (Move now) entry = moved_on now entry
-
--- a change at a moment that a clock has
-abbrev pub IsTimelyChange : Change → Type 0
-IsTimelyChange (SendBack now) = now.0 ≤ 1000000000000000
-IsTimelyChange (Fail how now) = now.0 ≤ 1000000000000000
-IsTimelyChange _ = Unit {0}
-
 -- what a slot has, with its pod changed
 abbrev pub kept_with : (Entry → Entry) → Option (Named Entry) → Option (Named Entry)
 kept_with change None = None
@@ -81,14 +65,6 @@ kept_with change (Some e) = Some (record { name = e.name; value = change e.value
 -- the slots with the pod in one of them changed
 abbrev pub changed_in : Pods → ℕ → (Entry → Entry) → Pods
 changed_in pods s change = slice_set pods s (kept_with change (entry_in pods s))
-
--- a tick to this moment releases it: its backoff has ended, or it failed 300,000 ms before or
--- earlier
-abbrev pub is_due : Moment → State → Bool
-is_due now Active = false
-is_due now (Backoff until) = nat_le until.0 now.0
-is_due now (Unschedulable since) = nat_le (since.0 + 300000) now.0
-is_due now (InFlight pass moved) = false
 
 -- it has not seen the last move: no node would take it, or it is in flight with no move since
 abbrev pub is_unmoved : State → Bool

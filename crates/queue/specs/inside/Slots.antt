@@ -6,9 +6,9 @@ use Rattle.name_table.specs.inside.Slots.{number_in}
 use Rattle.quant.specs.declared.limits.TheConstants.{MAX_QUEUED}
 use Rattle.queue.specs.declared.counts.Counts.{Counts}
 use Rattle.queue.specs.declared.index.Index.{Index}
-use Rattle.queue.specs.declared.state.State.{State}
-use Rattle.queue.specs.declared.state.State.TheVariants.{Active, Backoff, Unschedulable, InFlight}
-use Rattle.queue.specs.Entry.{Entry, is_active, is_backoff, is_unschedulable, is_in_flight}
+use Rattle.queued.specs.declared.state.State.{State}
+use Rattle.queued.specs.declared.state.State.TheVariants.{Active, Backoff, Unschedulable, InFlight}
+use Rattle.queued.specs.Entry.{Entry, is_active, is_backoff, is_unschedulable, is_in_flight}
 use Rattle.queue.specs.Queue.{QueueState}
 use Rattle.queue.specs.inside.Heap.{Pods}
 use Rattle.queue.specs.inside.Index.{IsIndex}

@@ -1,7 +1,8 @@
 use Rattle.std.proofs.Common.{◌≡◌, ℕ, ◌+◌, ◌≤◌, Some, arith, sym, ap, ◌∙◌, refl}
 use Rattle.name_table.specs.Slots.{put_in}
-use Rattle.queue.specs.Entry.{is_in_flight}
-use Rattle.queue.specs.inside.Index.{applied, state_in}
+use Rattle.queued.specs.Entry.{is_in_flight}
+use Rattle.queue.specs.inside.Index.{state_in}
+use Rattle.queued.specs.Change.{applied}
 use Rattle.queue.proofs.Indexes.{changed, stands_as, state_of, written}
 use Rattle.queue.proofs.Changes.{put_is}
 use Rattle.queue.proofs.slots.change.Goals as goal

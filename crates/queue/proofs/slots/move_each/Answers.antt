@@ -1,7 +1,7 @@
 use Rattle.std.proofs.Common.{◌≡◌, ℕ, ◌<◌, true, false, length, refl, sym, ap, ◌∙◌, subst}
 use Rattle.std.specs.Prelude.{IsSome}
 use Rattle.name_table.specs.Slots.{entry_in, map_of, NamesOnce}
-use Rattle.queue.specs.Entry.{moved_on}
+use Rattle.queued.specs.Entry.{moved_on}
 use Rattle.queue.specs.Queue.{each_changed}
 use Rattle.queue.specs.inside.Heap.{Pods}
 use Rattle.queue.specs.inside.Index.{stands_in, is_unmoved}

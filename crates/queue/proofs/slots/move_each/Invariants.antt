@@ -1,6 +1,6 @@
 use Rattle.std.proofs.Common.{◌≡◌, length}
 use Rattle.name_table.specs.Slots.{map_of, NamesOnce}
-use Rattle.queue.specs.Entry.{moved_on}
+use Rattle.queued.specs.Entry.{moved_on}
 use Rattle.queue.specs.Queue.{each_changed}
 use Rattle.queue.specs.inside.Index.{is_unmoved, IsIndex}
 use Rattle.queue.specs.inside.Slots.{OwnUids}

@@ -1,10 +1,11 @@
 use Rattle.std.proofs.Common.{◌≡◌, ℕ, ◌<◌, true, false, length, refl, sym, ap, ◌∙◌, subst}
 use Rattle.std.specs.Prelude.{IsSome}
 use Rattle.name_table.specs.Slots.{entry_in, map_of, NamesOnce}
-use Rattle.queue.specs.Entry.{ticked}
+use Rattle.queued.specs.Entry.{ticked}
 use Rattle.queue.specs.Queue.{each_changed}
 use Rattle.queue.specs.inside.Heap.{Pods}
-use Rattle.queue.specs.inside.Index.{stands_in, is_due}
+use Rattle.queue.specs.inside.Index.{stands_in}
+use Rattle.queued.specs.Change.{is_due}
 use Rattle.queue.specs.inside.Slots.{OwnUids}
 use Rattle.queue.proofs.Indexes.{there_if}
 use Rattle.queue.proofs.Changes.{tally, once_changed, own_changed, length_changed, each_step, one_less, unchanged, ticked_twice, ticked_rests, tick_leaves}

@@ -1,8 +1,9 @@
 use Rattle.std.proofs.Common.{◌≡◌, length}
 use Rattle.name_table.specs.Slots.{map_of, NamesOnce}
-use Rattle.queue.specs.Entry.{ticked}
+use Rattle.queued.specs.Entry.{ticked}
 use Rattle.queue.specs.Queue.{each_changed}
-use Rattle.queue.specs.inside.Index.{is_due, IsIndex}
+use Rattle.queue.specs.inside.Index.{IsIndex}
+use Rattle.queued.specs.Change.{is_due}
 use Rattle.queue.specs.inside.Slots.{OwnUids}
 use Rattle.queue.proofs.Changes.{tally}
 use Rattle.queue.proofs.slots.tick_each.Given as goal

@@ -1,7 +1,7 @@
 use Rattle.std.proofs.Common.{◌<◌, refl, ap, sym, ◌∙◌, subst}
-use Rattle.queue.specs.declared.state.State.TheVariants.{InFlight}
+use Rattle.queued.specs.declared.state.State.TheVariants.{InFlight}
 use Rattle.queue.proofs.Rows.{with_pushed}
-use Rattle.queue.specs.Entry.{is_active, is_backoff, is_unschedulable}
+use Rattle.queued.specs.Entry.{is_active, is_backoff, is_unschedulable}
 use Rattle.queue.proofs.Indexes.{all_there, enters_active, enters_backoff, enters_marked, enters_unschedulable, enters_unmarked, filled, grounded, slot_there}
 use Rattle.queue.proofs.index.Index.enter.Goals as goal
 

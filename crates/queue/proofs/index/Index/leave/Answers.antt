@@ -1,6 +1,6 @@
 use Rattle.std.proofs.Common.{refl, ap, ◌∙◌}
-use Rattle.queue.specs.declared.state.State.TheVariants.{InFlight}
-use Rattle.queue.specs.Entry.{is_active, is_backoff, is_unschedulable}
+use Rattle.queued.specs.declared.state.State.TheVariants.{InFlight}
+use Rattle.queued.specs.Entry.{is_active, is_backoff, is_unschedulable}
 use Rattle.queue.specs.inside.Index.{is_unmarked}
 use Rattle.queue.proofs.Indexes.{all_there, grounded, leaves_active, leaves_backoff, leaves_marked, leaves_unschedulable, leaves_unmarked, stands_as}
 use Rattle.queue.proofs.index.Index.leave.Goals as goal

@@ -1,7 +1,7 @@
 use Rattle.std.proofs.Common.{◌≡◌, true, false, sym, ap, ◌∙◌}
 use Rattle.quant.specs.declared.objects.Pod.{Pod}
 use Rattle.queue.specs.declared.refusal.Refusal.TheVariants.{Known, Full}
-use Rattle.queue.specs.Entry.{new_entry}
+use Rattle.queued.specs.Entry.{new_entry}
 use Rattle.queue.specs.Queue.{has_entry, is_full_queue, with_entry, refusal_to_add, after_add}
 use Rattle.queue.specs.inside.Slots.{state_of}
 use Rattle.queue.proofs.States.{refused, known_to_add, full_to_add, may_add, add_some, index_added}

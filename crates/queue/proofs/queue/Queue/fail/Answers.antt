@@ -1,7 +1,7 @@
 use Rattle.std.proofs.Common.{◌≡◌, true, false, arith, refl, sym, ap, ◌∙◌}
 use Rattle.std.specs.Prelude.{Some, None}
 use Rattle.queue.specs.declared.refusal.Refusal.TheVariants.{NotInFlight}
-use Rattle.queue.specs.Entry.{Entry, is_in_flight, is_in_flight_for, failed}
+use Rattle.queued.specs.Entry.{Entry, is_in_flight, is_in_flight_for, failed}
 use Rattle.queue.specs.inside.Index.{stands_in}
 use Rattle.queue.specs.Queue.{changed_at, refusal_to_fail, after_fail}
 use Rattle.queue.specs.inside.Slots.{state_of}

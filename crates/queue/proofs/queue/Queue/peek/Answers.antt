@@ -1,6 +1,6 @@
 use Rattle.std.proofs.Common.{Some, sym, ap, ◌∙◌}
 use Rattle.std.specs.Prelude.{option_copied, option_map}
-use Rattle.queue.specs.Entry.{Entry}
+use Rattle.queued.specs.Entry.{Entry}
 use Rattle.queue.specs.Order.{Item}
 use Rattle.queue.specs.Queue.{next_of}
 use Rattle.queue.proofs.Changes.{kept_in}

@@ -2,7 +2,7 @@ use Rattle.std.proofs.Common.{◌≡◌, true, arith, refl, sym, ap, ◌∙◌}
 use Rattle.std.specs.Prelude.{Some, IsSome, option_map}
 use Rattle.quant.specs.declared.name.Name.{Name}
 use Rattle.name_table.specs.Slots.{entry_in}
-use Rattle.queue.specs.Entry.{is_in_flight, popped}
+use Rattle.queued.specs.Entry.{is_in_flight, popped}
 use Rattle.queue.specs.Order.{Item}
 use Rattle.queue.specs.Queue.{next_of, after_pop}
 use Rattle.queue.specs.inside.Heap.{Pods}

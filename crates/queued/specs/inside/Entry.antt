@@ -1,7 +1,7 @@
 -- Which entries are told at a moment in time.
 use Rattle.std.specs.Prelude.{◌≤◌}
-use Rattle.queue.specs.declared.state.State.{State}
-use Rattle.queue.specs.declared.state.State.TheVariants.{Unschedulable}
+use Rattle.queued.specs.declared.state.State.{State}
+use Rattle.queued.specs.declared.state.State.TheVariants.{Unschedulable}
 
 -- an unschedulable pod failed at a moment that a clock has
 abbrev pub IsTimely : State → Type 0

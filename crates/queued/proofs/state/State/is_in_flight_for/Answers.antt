@@ -1,5 +1,5 @@
 use Rattle.std.proofs.Common.{rules}
-use Rattle.queue.proofs.state.State.is_in_flight_for.Goals as goal
+use Rattle.queued.proofs.state.State.is_in_flight_for.Goals as goal
 
 -- `search rules` is found without this file too: with it, a wrong body that is tried here is
 -- refused without a second run

@@ -1,8 +1,7 @@
 //! One entry of the queue.
 ghost use Rattle.std.specs.Prelude.{◌≡◌, ◌≤◌};
-ghost use Rattle.queue.specs.Entry.{new_entry, backoff, backed_off, is_active, is_in_flight, is_in_flight_for, popped, sent_back, failed, ticked, moved_on};
-ghost use Rattle.queue.specs.inside.Heap.{moment_of};
-ghost use Rattle.queue.specs.inside.Index.{applied, is_due, IsTimelyChange};
+ghost use Rattle.queued.specs.Entry.{new_entry, backoff, backed_off, is_active, is_in_flight, is_in_flight_for, popped, sent_back, failed, ticked, moved_on};
+ghost use Rattle.queued.specs.Change.{moment_of, applied, is_due, IsTimelyChange};
 
 use crate::state::{Failure, PassNumber, State};
 use quant::{LATEST_MOMENT, Moment, Name, SharedPod};
@@ -25,7 +24,7 @@ const MOST_ATTEMPTS: u32 = 1_000_000;
 
 /// What becomes of a pod.
 #[derive(Clone, Copy)]
-pub(crate) enum Change {
+pub enum Change {
     /// A pass pops it.
     Pop(PassNumber),
     /// It comes back to back off from this moment on.
@@ -40,7 +39,7 @@ pub(crate) enum Change {
 
 /// A pod that waits, with what the queue knows of it.
 #[derive(Drop)]
-pub(crate) struct Slot {
+pub struct Slot {
     pod: SharedPod,
     // The pod's, beside the rest: a look at the pod itself is slow.
     priority: i32,
@@ -51,8 +50,8 @@ pub(crate) struct Slot {
 
 impl Model for Slot {
     ghost use Rattle.std.specs.Prelude.{◌≡◌};
-    ghost use Rattle.queue.specs.Entry.{Entry};
-    ghost use Rattle.queue.specs.inside.Entry.{IsTimely};
+    ghost use Rattle.queued.specs.Entry.{Entry};
+    ghost use Rattle.queued.specs.inside.Entry.{IsTimely};
 
     ghost Value = { Entry };
 
@@ -80,7 +79,7 @@ fn end_of_backoff(failed: Moment, attempts: u32) -> Moment
 
 impl Slot {
     /// A pod that comes now.
-    pub(crate) fn new(pod: SharedPod, now: Moment) -> Slot
+    pub fn new(pod: SharedPod, now: Moment) -> Slot
         ensures { result ≡ new_entry pod now }
     {
         Slot {
@@ -93,35 +92,35 @@ impl Slot {
     }
 
     /// The pod.
-    pub(crate) fn pod(&self) -> &SharedPod
+    pub fn pod(&self) -> &SharedPod
         ensures { result.now ≡ self.now.pod }
     {
         &self.pod
     }
 
     /// The pod, out of its entry.
-    pub(crate) fn into_pod(self) -> SharedPod
+    pub fn into_pod(self) -> SharedPod
         ensures { result ≡ self.pod }
     {
         self.pod
     }
 
     /// The pod's priority.
-    pub(crate) fn priority(&self) -> i32
+    pub fn priority(&self) -> i32
         ensures { result ≡ self.now.pod.priority }
     {
         self.priority
     }
 
     /// When the pod came.
-    pub(crate) fn arrival(&self) -> Moment
+    pub fn arrival(&self) -> Moment
         ensures { result ≡ self.now.arrival }
     {
         self.arrival
     }
 
     /// The moment that the pod waits for, or has waited since.
-    pub(crate) fn moment(&self) -> Moment
+    pub fn moment(&self) -> Moment
         ensures { result.0 ≡ moment_of self.now.state }
     {
         match self.state {
@@ -132,28 +131,28 @@ impl Slot {
     }
 
     /// Where the pod stands.
-    pub(crate) fn state(&self) -> State
+    pub fn state(&self) -> State
         ensures { result ≡ self.now.state }
     {
         self.state
     }
 
     /// Whether some pass has popped the pod.
-    pub(crate) fn is_in_flight(&self) -> bool
+    pub fn is_in_flight(&self) -> bool
         ensures { result ≡ is_in_flight self.now.state }
     {
         self.state.is_in_flight()
     }
 
     /// Whether this pass has popped the pod.
-    pub(crate) fn is_in_flight_for(&self, pass: PassNumber) -> bool
+    pub fn is_in_flight_for(&self, pass: PassNumber) -> bool
         ensures { result ≡ is_in_flight_for pass self.now.state }
     {
         self.state.is_in_flight_for(pass)
     }
 
     /// A pass pops the pod.
-    pub(crate) fn pop(&mut self, pass: PassNumber)
+    pub fn pop(&mut self, pass: PassNumber)
         ensures { self.new ≡ popped pass self.old }
     {
         self.attempts = self.attempts.saturating_add(1).min(MOST_ATTEMPTS);
@@ -161,7 +160,7 @@ impl Slot {
     }
 
     /// The pod comes back to back off from now on.
-    pub(crate) fn send_back(&mut self, now: Moment)
+    pub fn send_back(&mut self, now: Moment)
         requires { now.0 ≤ LATEST_MOMENT }
         ensures { self.new ≡ sent_back now self.old }
     {
@@ -169,7 +168,7 @@ impl Slot {
     }
 
     /// The pod's attempt has failed.
-    pub(crate) fn fail(&mut self, how: Failure, now: Moment)
+    pub fn fail(&mut self, how: Failure, now: Moment)
         requires { now.0 ≤ LATEST_MOMENT }
         ensures { self.new ≡ failed how now self.old }
     {
@@ -182,7 +181,7 @@ impl Slot {
     }
 
     /// Whether the pod is released at this moment.
-    pub(crate) fn is_due(&self, now: Moment) -> bool
+    pub fn is_due(&self, now: Moment) -> bool
         ensures { result ≡ is_due now self.now.state }
     {
         match self.state {
@@ -193,7 +192,7 @@ impl Slot {
     }
 
     /// Time goes on to this moment.
-    pub(crate) fn tick(&mut self, now: Moment)
+    pub fn tick(&mut self, now: Moment)
         ensures { self.new ≡ ticked now self.old }
     {
         if self.is_due(now) {
@@ -202,7 +201,7 @@ impl Slot {
     }
 
     /// Something moved that may let an unschedulable pod in.
-    pub(crate) fn move_on(&mut self, now: Moment)
+    pub fn move_on(&mut self, now: Moment)
         ensures { self.new ≡ moved_on now self.old }
     {
         match self.state {
@@ -220,7 +219,7 @@ impl Slot {
     }
 
     /// What a change makes of the pod.
-    pub(crate) fn apply(&mut self, change: Change)
+    pub fn apply(&mut self, change: Change)
         requires { IsTimelyChange change }
         ensures { self.new ≡ applied change self.old }
     {

@@ -1,6 +1,6 @@
 //! Where a pod stands in the queue, and how an attempt at it may fail.
 ghost use Rattle.std.specs.Prelude.{◌≡◌};
-ghost use Rattle.queue.specs.Entry.{is_active, is_in_flight, is_in_flight_for};
+ghost use Rattle.queued.specs.Entry.{is_active, is_in_flight, is_in_flight_for};
 
 use quant::Moment;
 
