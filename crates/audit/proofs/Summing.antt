@@ -9,7 +9,7 @@ use Rattle.std.specs.BTreeMap.{get_by, Updates}
 use Rattle.std.specs.Cmp.Lexicographic.{bytes_decides}
 use Rattle.std.proofs.lemmas.Bool.{cases_Bool, cond-true, cond-false}
 use Rattle.std.proofs.lemmas.List.Elements.{All-map, All-cons}
-use Rattle.std.proofs.lemmas.List.Sums.{sum_by-cons, sum_by-append, sum_by_more}
+use Rattle.std.proofs.lemmas.List.Sums.{sum_by-cons, sum_by-append}
 use Rattle.std.proofs.lemmas.List.{length-take}
 use Rattle.quant.specs.declared.amount.Res.{Res}
 use Rattle.name_table.specs.Slots.{Slots, map_of, NamesOnce}
@@ -26,7 +26,7 @@ use Rattle.rayon.specs.Lists.{chunks_of}
 use Rattle.rayon.proofs.ToStd.{chunks_of-All, chunks_of-concat}
 use Rattle.audit.specs.declared.sums.Sums.{Sums}
 use Rattle.audit.specs.Audit.{ShowsSums}
-use Rattle.audit.specs.inside.Audit.{cpu_on, mem_on, pods_on, amounts, nothing, plus, AddsShare, share_in, used_in, sum_in, total_in, IsSumOf, HasRoom}
+use Rattle.audit.specs.inside.Audit.{cpu_on, mem_on, pods_on, amounts, nothing, plus, AddsShare, used_in, sum_in, total_in, IsSumOf, HasRoom}
 
 module _ {X Y : Type 0} (P : X → Type 0) (f : Y → X) where
   back : (ys : List Y) → All P (map f ys) → All (λ y. P (f y)) ys
@@ -113,11 +113,6 @@ room_of_slots slots i node sum is few =
     let mem = of_slots (mem_on node) (2 ^ 44) (few_mem node) first in
     let pods = of_slots (pods_on node) 1 (few_pods node) first in
     subst HasRoom (sym is) (omega (arith, cpu, len, few), omega (arith, mem, len, few), omega (arith, pods, len, few))
-
--- a slot more
-pub one_slot_more : (slots : Slots Place) (i : ℕ) (node : List ℕ) → i < length slots → used_in (take (i + 1) slots) node ≡ plus (used_in (take i slots) node) (share_in node (get_or slots i None))
-one_slot_more slots i node lt =
-    same_res _ _ (sum_by_more (number_in (cpu_on node)) slots i None lt) (sum_by_more (number_in (mem_on node)) slots i None lt) (sum_by_more (number_in (pods_on node)) slots i None lt)
 
 -- ---- pieces
 

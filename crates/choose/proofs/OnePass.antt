@@ -27,7 +27,7 @@ use Rattle.choose.specs.declared.decision.Verdict.{Verdict}
 use Rattle.choose.specs.declared.decision.Verdict.TheVariants.{Rejected}
 use Rattle.choose.specs.declared.best.Worth.TheVariants.{Total}
 use Rattle.choose.specs.declared.best.Found.{Found}
-use Rattle.choose.specs.Verdict.{built_in, first_reason, too_little, passing}
+use Rattle.choose.specs.Verdict.{built_in, first_reason, passing}
 use Rattle.choose.specs.Choice.{Judged, errs, count_of, total_of, is_for, NoneErrs}
 use Rattle.choose.specs.inside.Verdict.{nothing_added}
 use Rattle.choose.specs.inside.Alone.{verdict_by, alone, verdicts_alone, judged_alone, worth_from, least_after, after_told, one_for}
@@ -36,14 +36,6 @@ use Rattle.choose.proofs.First.{irreflexive, not_before_earlier, judged_length, 
 use Rattle.choose.proofs.Plain.{keeps_none_off, is_preferred}
 
 -- ---- one node
-
--- the verdict of the built-in filters and scores is this one, and none other
-verdict_is : (pod : Pod) (s : Shown) (o : Option Reason) (verdict : Verdict) → MatchOption o (verdict ≡ passing s pod nothing_added) (λ reason. verdict ≡ Rejected reason) → verdict ≡ verdict_by pod s o
-verdict_is pod s None verdict is = is
-verdict_is pod s (Some reason) verdict is = is
-
-pub alone_is : (pod : Pod) (s : Shown) (verdict : Verdict) → IsBuiltIn pod s verdict → verdict ≡ alone pod s
-alone_is pod s verdict is = verdict_is pod s (built_in s pod) verdict is
 
 is_verdict : (pod : Pod) (s : Shown) (o : Option Reason) → MatchOption o (verdict_by pod s o ≡ passing s pod nothing_added) (λ reason. verdict_by pod s o ≡ Rejected reason)
 is_verdict pod s None = refl
@@ -137,9 +129,6 @@ no_taints most = by_most most (most == 0) refl
 abbrev pub plus_hundred : Option ℕ → Option ℕ
 plus_hundred None = None
 plus_hundred (Some score) = Some (score + 100)
-
-abbrev plain_verdict : Pod → Shown → Result (Unit {0}) Shortage → Verdict
-plain_verdict pod s room = verdict_by pod s (too_little room)
 
 same_test : (least score : ℕ) → nat_le (least - 100) score ≡ nat_le least (score + 100)
 same_test least score = grind (arith, nat_tests)

@@ -29,9 +29,6 @@ plan_is rows workers specs first second = rw (first, second) refl
 pub no_workers : (rows : List Row) → number_found Workers rows ≡ None → plan_found rows ≡ None
 no_workers rows none = rw none refl
 
-pub no_specs : (rows : List Row) (workers : ℕ) → number_found Workers rows ≡ Some workers → specs_found rows ≡ None → plan_found rows ≡ None
-no_specs rows workers first none = rw (first, none) refl
-
 -- the numbers of threads, the flag and the plugins of a storm
 pub storm_is : (rows : List Row) (cycles binders : ℕ) (is_flaky : Bool) (specs : List SpecSyntax) → number_found Cycles rows ≡ Some cycles
     → number_found Binders rows ≡ Some binders → is_flaky ≡ is_told (first_of (codes "flaky") rows) → specs_found rows ≡ Some specs
@@ -41,14 +38,6 @@ storm_is rows cycles binders is_flaky specs first second flag third =
 
 pub no_cycles : (rows : List Row) → number_found Cycles rows ≡ None → storm_found rows ≡ None
 no_cycles rows none = rw none refl
-
-pub no_binders : (rows : List Row) (cycles : ℕ) → number_found Cycles rows ≡ Some cycles → number_found Binders rows ≡ None
-    → storm_found rows ≡ None
-no_binders rows cycles first none = rw (first, none) refl
-
-pub no_storm_specs : (rows : List Row) (cycles binders : ℕ) → number_found Cycles rows ≡ Some cycles → number_found Binders rows ≡ Some binders
-    → specs_found rows ≡ None → storm_found rows ≡ None
-no_storm_specs rows cycles binders first second none = rw (first, second, none) refl
 
 -- the scheduler and the flags of a translation
 pub translate_is : (rows : List Row) (scheduler labels : List ℕ) (by_uid answers : Bool) → scheduler ≡ scheduler_found rows
@@ -60,9 +49,6 @@ translate_is rows scheduler labels by_uid answers first second third fourth = λ
 pub live_is : (rows : List Row) (scheduler labels : List ℕ) (plan : ℕ × List SpecSyntax) → scheduler ≡ scheduler_found rows → labels ≡ labels_found rows
     → plan_found rows ≡ Some plan → live_found rows ≡ Some (live scheduler labels plan.0 plan.1)
 live_is rows scheduler labels plan first second third = rw third (λ i. Some (live (sym first i) (sym second i) plan.0 plan.1))
-
-pub no_live : (rows : List Row) → plan_found rows ≡ None → live_found rows ≡ None
-no_live rows none = rw none refl
 
 -- the texts that stand there, or none
 pub texts_or_none : (r : Option (Bor (List (Bor (List ℕ))))) (d : Bor (List (Bor (List ℕ)))) → d.now ≡ []

@@ -64,12 +64,6 @@ unless_none : (o : Option Refusal) (s : State) (done : Outcome) → Sleeps s →
 unless_none None s done none then = then
 unless_none (Some why) s done none then = none
 
--- a node goes
-pub gone_wakes_none : (version : Version) (name : Name) (answer : Reply) → WakesNone (Event (NodeGone version name)) answer
-gone_wakes_none version name answer s pass is none =
-    let part = of_node s (NodeGone version name) in
-    unless_none (book_step.refusal s.cluster part) s (done_by s part s.queue) none none
-
 -- where no entry is active none is without one of them
 none_without : (q : QueueState) (u : Name) → NoneActive q → NoneActive (after_remove q u)
 none_without q u none uid =

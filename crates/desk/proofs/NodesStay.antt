@@ -1,6 +1,6 @@
 -- Calls that tell of no node leave the nodes as they are.
 use Rattle.std.proofs.Common.{◌≡◌, ℕ, zero, suc, ◌+◌, ◌<◌, ◌≤◌, Bool, true, false, cond, List, [], ◌∷◌, ◌++◌, get_or, set, map, take, length, Option, None, Some, refl, sym, ap, ◌∙◌, arith}
-use Rattle.std.proofs.lemmas.List.{length-map, get_or-map, set-get_or, map-set, map_push, take_all, take_more, take_more_set}
+use Rattle.std.proofs.lemmas.List.{length-map, get_or-map, set-get_or, map-set, take_all, take_more}
 use Rattle.std.proofs.lemmas.List.Sums.{sum_by-cons, sum_by-append}
 use Rattle.std.specs.FinMap.{get, entries}
 use mathlib.Core.List.{IsPrefix}
@@ -131,23 +131,6 @@ module _ (rows : List Row) (nodes : List Node) (us : List Res) (same : nodes_of 
         map-set (λ (r : Row). r.node) rows at new
         ∙ ap (set (nodes_of rows) at) (kept ∙ ap (λ (r : Row). r.node) is ∙ sym (get_or-map (λ (r : Row). r.node) rows at row new.node lt))
         ∙ set-get_or (nodes_of rows) at new.node ∙ same
-
-    -- one row more shows what is used now
-    pub written_more : (none : Res) → new.used ≡ get_or us at none → map shown (take at rows) ≡ take at (beside nodes us) → map shown (take (at + 1) (set rows at new)) ≡ take (at + 1) (beside nodes us)
-    written_more none is_total written =
-        let few : at < length nodes = omega (arith, lt, as_many) in
-        let node : new.node ≡ get_or nodes at row.node =
-        kept ∙ ap (λ (r : Row). r.node) is ∙ sym (get_or-map (λ (r : Row). r.node) rows at row row.node lt) ∙ ap (λ (l : List Node). get_or l at row.node) same in
-        let same_row : shown new ≡ get_or (beside nodes us) at (record { node = row.node; used = none }) = (λ i. record { node = node i; used = is_total i }) ∙ sym (get_beside nodes us at row.node none long few) in
-        ap (map shown) (take_more_set rows at new lt) ∙ map_push shown (take at rows) new
-        ∙ ap (λ (l : List Shown). l ++ shown new ∷ []) written
-        ∙ ap (λ (s : Shown). take at (beside nodes us) ++ s ∷ []) same_row
-        ∙ sym (take_more (beside nodes us) at (record { node = row.node; used = none }) (omega (arith, few, length-beside nodes us long)))
-
-  -- and in the end all do
-  pub written_all : (at : ℕ) → length rows ≤ at → map shown (take at rows) ≡ take at (beside nodes us) → map shown rows ≡ beside nodes us
-  written_all at le written =
-      ap (map shown) (sym (take_all at rows le)) ∙ written ∙ take_all at (beside nodes us) (omega (arith, le, as_many, length-beside nodes us long))
 
 -- ---- rows that are made anew
 

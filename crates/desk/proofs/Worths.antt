@@ -1,7 +1,7 @@
 -- What is kept of what nodes are worth stays so where one of them changes.
 use Rattle.std.proofs.Common.{◌≡◌, ℕ, ◌+◌, ◌<◌, ◌≤◌, ◌≢◌, true, List, [], ◌∷◌, ◌++◌, get_or, set, length, map, take, sym, ap, subst, ◌∙◌, arith}
 use Rattle.std.specs.List.{AllWithin}
-use Rattle.std.proofs.lemmas.List.{length-map, map-set, map_push, take_more, get_or-map, get_or-set_other, get_or-set_same}
+use Rattle.std.proofs.lemmas.List.{length-map, map-set, map_push, take_more, get_or-map, get_or-set_same}
 use Rattle.std.proofs.lemmas.List.Elements.{All-set, AllWithin-more}
 use Rattle.quant.specs.declared.amount.Request.{Request}
 use Rattle.desk.specs.declared.class.Class.{Class}
@@ -10,10 +10,6 @@ use Rattle.desk.specs.Plain.{is_plain}
 use Rattle.desk.specs.Shown.{Shown, shown}
 use Rattle.desk.specs.Worth.{ArePlain, worth}
 use Rattle.desk.specs.inside.Kept.{AreKept, IsClass}
-
--- no class is kept of any nodes
-pub none_kept : (nodes : List Shown) (classes : List Class) → classes ≡ [] → AreKept nodes classes
-none_kept nodes classes none = λ k d lt. absurd (omega (arith, lt, ap length none))
 
 -- one node changes, and stays as plain as it was
 pub plain_still : (nodes : List Shown) (at : ℕ) (s : Shown) → at < length nodes → s.node ≡ (get_or nodes at s).node → ArePlain nodes → ArePlain (set nodes at s)
@@ -29,13 +25,6 @@ class_still nodes at s old new lt same request all_plain worths is = record {
       ∙ ap (λ (r : Request). map (worth r) (set nodes at s)) (sym request);
   plain = λ (e : new.all_plain ≡ true). plain_still nodes at s lt same (is.plain (sym all_plain ∙ e));
 }
-
--- those behind a place that is set stay
-pub later_still : {X : Type 0} (P : X → Type 0) (xs : List X) (i n : ℕ) (v : X) → AllWithin P xs i n → AllWithin P (set xs i v) (i + 1) n
-later_still P xs i n v within = λ j d low high. subst P (sym (get_or-set_other xs i j v d (other i j low))) (within j d (omega (arith, low)) high)
-  where
-    other : (i j : ℕ) → i + 1 ≤ j → j ≢ i
-    other i j low = λ same. omega (arith, low, same)
 
 -- what is kept of rows, of which one changes, but not its node, and is then judged again
 pub kept_written : (rows : List Row) (at : ℕ) (row new d : Row) (old now : List Class) → at < length rows → row ≡ get_or rows at row → new.node ≡ row.node

@@ -1,6 +1,6 @@
 -- Kits that are the same judge alike.
 use Rattle.std.specs.List.{Contains}
-use Rattle.std.proofs.Common.{◌≡◌, ◌<◌, List, [], ◌∷◌, All, length, get_or, slice_index_or, sym, subst, ◌∙◌, arith}
+use Rattle.std.proofs.Common.{◌≡◌, ◌<◌, List, [], ◌∷◌, length, get_or, slice_index_or, sym, subst, ◌∙◌, arith}
 use Rattle.rules.specs.RuleSet.{RuleSet}
 use Rattle.choose.specs.Verdict.{HasVerdict}
 use Rattle.choose.specs.Kits.{JudgeAlike, rules_of}
@@ -18,11 +18,6 @@ alone kit other there =
 -- so one kit judges alike
 pub one_alike : {Kit : Type 0} (answers : Kit → RuleSet) (kit : Kit) → JudgeAlike answers (kit ∷ [])
 one_alike answers kit = alike_where_same answers (kit ∷ []) (λ one other first second. sym (alone kit one first) ∙ alone kit other second)
-
--- what holds of the rules of each kit holds of the first's
-pub first_of_all : {Kit : Type 0} (answers : Kit → RuleSet) (Holds : RuleSet → Type 0) (kits : List Kit) → 0 < length kits → All (λ kit. Holds (answers kit)) kits → Holds (rules_of answers kits)
-first_of_all answers Holds [] some all = absurd (omega (arith, some))
-first_of_all answers Holds (kit ∷ kits) some all = all 0 kit some
 
 -- what holds of the rules of the kit that stands first holds of the first's
 pub first_is : {Kit : Type 0} (answers : Kit → RuleSet) (Holds : RuleSet → Type 0) (kits : List Kit) (other : Kit) → 0 < length kits → Holds (answers (get_or kits 0 other)) → Holds (rules_of answers kits)

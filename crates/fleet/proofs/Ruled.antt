@@ -2,7 +2,7 @@
 use Rattle.std.proofs.Common.{ℕ, List, [], ◌∷◌, ◌++◌}
 use Rattle.std.specs.Bool.{⊤}
 use Rattle.std.specs.List.{AllByRecursion}
-use Rattle.crossbeam_channel.specs.Fifo.{Pushes, Pops, Forks, Learns}
+use Rattle.crossbeam_channel.specs.Fifo.{Pushes, Pops, Learns}
 
 pushed : {T : Type 0} (P : T → Type 0) (xs : List T) (x : T) → AllByRecursion P xs → P x → AllByRecursion P (xs ++ x ∷ [])
 pushed P [] x all is = (is, tt)
@@ -20,10 +20,6 @@ module _ {T : Type 0} (P : T → Type 0) where
   -- and one that is received is so
   pub may_be_received : (pass : ℕ) → Pops EachIs pass tt (λ x w. P x)
   may_be_received pass = λ x items views all at. (tt, all.1, all.0)
-
-  -- one more may send or receive
-  pub may_be_two : (pass : ℕ) → Forks EachIs pass tt tt tt
-  may_be_two pass = λ items views all at. all
 
   -- nothing is learned
   pub nothing_learned : (pass : ℕ) → Learns EachIs pass tt (λ items. ⊤)

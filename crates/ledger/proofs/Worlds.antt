@@ -35,12 +35,12 @@ use Rattle.ledger.specs.declared.known.Asking.TheVariants.{Sent}
 use Rattle.ledger.specs.declared.known.Known.{Known}
 use Rattle.ledger.specs.declared.known.Stage.{Stage}
 use Rattle.ledger.specs.declared.known.Stage.TheVariants.{Waits, Asked, Stands}
-use Rattle.ledger.specs.Hearing.{heard, with_heard, is_last, list_begins, deaf, hears, IsListEnd}
+use Rattle.ledger.specs.Hearing.{with_heard, is_last, list_begins, deaf, hears, IsListEnd}
 use Rattle.ledger.specs.State.{State, opening, is_open}
-use Rattle.ledger.specs.Telling.{Became, became, bind_waiting, bind_at, bind_of, bind, with_pod}
+use Rattle.ledger.specs.Telling.{Became, became, bind_at, bind_of, bind, with_pod}
 use Rattle.ledger.specs.World.{World, Move, Tells, Lands, Ends, Lapses, Grows, Restarts, IsOwed, IsExpected, IsToldIn, IsMove, IsRoomy, IsBegin, Leads}
 use Rattle.ledger.proofs.Included.{cases_name, put_here, put_away, out_away, same_itself, IsIn, used_within}
-use Rattle.ledger.proofs.Holding.{Holds, IsNoSurer, kept, grant}
+use Rattle.ledger.proofs.Holding.{Holds, kept, grant}
 use Rattle.ledger.proofs.Events.{by_test, by_stands, by_waits, by_withheld, short, by_gone, by_answer, by_read, by_node, by_node_gone}
 use Rattle.ledger.proofs.Ends.{by_nodes_end, by_pods_end}
 
@@ -154,10 +154,6 @@ module _ (w w' : World) (good : IsGood w) (uid node : Name) (answer : Answer) (e
           ],
         )
 
-    goes_refusal : (o : Option Refusal) → refusal w.known.cluster (Assume uid node (Held request)) ≡ o → o ≡ None → Goes (elim o [ None ↦ became (Granted (next_ticket w.known.cluster)) after | Some why ↦ became (Refused why) w.known ])
-    goes_refusal None is none = goes_granted
-    goes_refusal (Some why) is none = absurd (cc)
-
   goes_waiting : is_open w.known ≡ true → (known : Known) (request : Request) → (o : Option Refusal) → refusal w.known.cluster (Assume uid node (Held request)) ≡ o
       → Goes (elim o [ None ↦ became (Granted (next_ticket w.known.cluster)) (with_pod (record w.known { cluster = effect w.known.cluster (Assume uid node (Held request)) }) uid (record known { stage = Asked request (next_ticket w.known.cluster) Sent })) | Some why ↦ became (Refused why) w.known ])
   goes_waiting opened known request None is = goes_granted opened known request is
@@ -205,10 +201,6 @@ module _ (w w' : World) (good : IsGood w) where
 
   after_told : (b : Became) (answer : Answer) → Held' b.state → became answer w'.known ≡ b → Held' w'.known
   after_told b answer holds told = subst Held' (sym (ap (λ b. b.state) told)) holds
-
-  with_kind : (kind : Kind) → IsNoSurer w.known (with_heard w.known kind (record (heard w.known kind) { hears = false }))
-  with_kind Nodes listed whole = (listed, whole)
-  with_kind Pods listed whole = (listed, whole)
 
   by_deaf : (kind : Kind) → Held' (deaf w.known kind).state
   by_deaf Nodes = kept w.known _ w.expected w.room good.holds refl (λ listed whole. (listed, whole)) refl good.holds.placed

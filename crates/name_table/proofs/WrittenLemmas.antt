@@ -1,9 +1,8 @@
 -- What lists of which what was never written takes no memory are after a write.
 use Rattle.std.proofs.Common.{◌≡◌, ℕ, ◌+◌, ◌-◌, ◌*◌, ◌/◌, ◌%◌, ◌<◌, ◌≤◌, cond, List, [], ◌∷◌, ◌++◌, length, get_or, set, take, replicate, nat_lt, count_by, refl, sym, ap, ◌∙◌, inl, inr, arith, get_or-set_same, get_or-set_other}
-use Rattle.std.proofs.lemmas.List.{length-set, length-append, length-replicate, length_push, take_all, ext_get_or, get_or_append_left, get_or-append_right, get_or-replicate, get_or_past, get_or_push}
+use Rattle.std.proofs.lemmas.List.{length-set, length-append, length-replicate, take_all, ext_get_or, get_or_append_left, get_or-append_right, get_or-replicate, get_or_past}
 use Rattle.std.proofs.lemmas.List.FromFn.{length-range_with_len, get_or-range_with_len, length-map-range_with_len, get_or-map-range_with_len}
 use Rattle.std.proofs.lemmas.List.Sums.{sum_by-set, count_by-le-length}
-use Rattle.std.proofs.lemmas.List.Folds.{sum_by-replicate}
 use Rattle.std.proofs.lemmas.Bool.{cases_lt, cases_eq, lt-ltb}
 use Rattle.std.specs.List.{range_with_len}
 use Rattle.name_table.specs.declared.links.Link.{Link}
@@ -55,19 +54,6 @@ module _ (free : ℕ) where
       let homes : listed (λ k. free) room ≡ replicate room free =
       listed_as (λ k. free) room (replicate room free) (length-replicate room free) (λ k lt. sym (get_or-replicate room k free 0 lt)) in
       λ t. record { nexts = nexts t; homes = homes t }
-
-  -- one more is written as it is
-  pub link_more : (w : List Link) (n k : ℕ) → n ≡ length w → link_at (w ++ first_link free n ∷ []) free k ≡ link_at w free k
-  link_more w n k is =
-      let l = first_link free n in
-      let d = first_link free k in
-      elim (cases_lt k n) [
-        | inl lt ↦ get_or_append_left w (l ∷ []) d k (omega arith)
-        | inr le ↦ elim (cases_eq k n) [
-          | inl e ↦ get_or_push w l d k (omega arith) ∙ ap (first_link free) (sym e) ∙ sym (get_or_past w k d (omega arith))
-          | inr ne ↦ get_or_past (w ++ l ∷ []) k d (omega (arith, length_push w l)) ∙ sym (get_or_past w k d (omega arith))
-        ]
-      ]
 
   module _ (w : List Link) (room : ℕ) (now : Hung) (same : hung w room free ≡ now) where
     -- as many slots as there is room for
@@ -148,19 +134,6 @@ get_or_more xs m i d =
 abbrev is_there : ℕ → ℕ
 is_there b = cond {A = ℕ} (nat_lt b unwritten) 1 0
 
--- blocks of which none is written
-pub blocks_new : (n : ℕ) → n < unwritten → AreBlocks (replicate n unwritten) []
-blocks_new n few =
-    let many : length (replicate n unwritten) ≡ n = length-replicate n unwritten in
-    let none : count_by (λ b. nat_lt b unwritten) (replicate n unwritten) ≡ n * 0 = sum_by-replicate is_there n unwritten in
-    let at : (i : ℕ) → i < n → get_or (replicate n unwritten) i 0 ≡ unwritten = λ i lt. get_or-replicate n i unwritten 0 lt in
-    record {
-      few = omega arith;
-      counted = omega arith;
-      whole = λ i lt there. absurd (omega (arith, at i (omega arith)));
-      apart = λ i j i_lt j_lt there e. absurd (omega (arith, at i (omega arith)));
-    }
-
 -- as many ends
 pub heads_new : (n end len : ℕ) → listed (head_at (replicate n unwritten) [] end) len ≡ replicate len end
 heads_new n end len =
@@ -180,15 +153,6 @@ module _ (blocks written : List ℕ) (old : AreBlocks blocks written) where
       let counted = old.counted in
       let few = old.few in
       (omega arith, omega arith)
-
-  -- blocks after others as long
-  pub blocks_kept : (v : List ℕ) → length v ≡ length written → AreBlocks blocks v
-  blocks_kept v e = record {
-    few = old.few;
-    counted = e ∙ old.counted;
-    whole = λ i lt there. omega (arith, old.whole i lt there);
-    apart = old.apart;
-  }
 
   module _ (block n end : ℕ) (a_block : block < length blocks) (new : get_or blocks block 0 ≡ unwritten) (last : length written ≡ n * 1024) where
     -- it is one more

@@ -1,5 +1,5 @@
 -- The lines of the output are whole lines: those of nodes are indented, and the others aren't.
-use Rattle.std.proofs.Common.{◌≡◌, ℕ, ◌-◌, ◌==◌, ◌&&◌, Bool, true, false, List, [], ◌∷◌, ◌++◌, Option, Some, None, Result, Ok, Err, OnOk, IsTrue, refl, ap, codes, decimal}
+use Rattle.std.proofs.Common.{◌≡◌, ℕ, ◌-◌, ◌==◌, ◌&&◌, Bool, true, false, List, [], ◌∷◌, ◌++◌, Option, Some, Result, Ok, Err, OnOk, IsTrue, refl, ap, codes, decimal}
 use Rattle.std.specs.List.{list_all}
 use Rattle.quant.specs.Name.{is_name, is_text}
 use Rattle.quant.specs.declared.name.Name.{Name}
@@ -235,10 +235,6 @@ effect_of : (e : Effect) → Part false (effect_name e)
 effect_of effect.NoSchedule = words (codes "NoSchedule") refl
 effect_of effect.PreferNoSchedule = words (codes "PreferNoSchedule") refl
 effect_of effect.NoExecute = words (codes "NoExecute") refl
-
-pub no_taint_is_line : IsLine (taint_text None)
-unfolding taint_text
-no_taint_is_line = IsLine-by [] refl
 
 pub taint_is_line : (taint : Taint) → IsTrue (is_name taint.key) → IsTrue (is_text taint.value) → IsLine (taint_text (Some taint))
 unfolding taint_text

@@ -1,12 +1,7 @@
 -- What stands at a place of a history that grows.
-use Rattle.std.proofs.Common.{◌≡◌, ℕ, List, [], ◌∷◌, ◌++◌, length, refl, Some, slice_get}
+use Rattle.std.proofs.Common.{◌≡◌, ℕ, List, [], ◌∷◌, ◌++◌, Some, slice_get}
 use mathlib.Core.List.{IsPrefix}
 use Rattle.desk.proofs.Beginnings.{prefix_get}
-
--- what was added stands behind what was there
-pub added_stands : {A : Type 0} (xs : List A) (x : A) → slice_get (xs ++ x ∷ []) (length xs) ≡ Some x
-added_stands [] x = refl
-added_stands (y ∷ xs) x = added_stands xs x
 
 -- in two beginnings of one list the same stands at one place
 pub one_stands : {A : Type 0} (xs ys zs : List A) (k : ℕ) (x y : A) → IsPrefix xs zs → IsPrefix ys zs → slice_get xs k ≡ Some x → slice_get ys k ≡ Some y → y ≡ x

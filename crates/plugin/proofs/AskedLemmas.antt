@@ -51,10 +51,6 @@ by_node records told same (suc (suc (suc (suc zero)))) e = ap Some (sym same.0)
 by_node records told same (suc (suc (suc (suc (suc zero))))) e = ap (λ v. Some v.third) (sym same.1)
 by_node records told same (suc (suc (suc (suc (suc (suc n)))))) e = refl
 
--- an instance whose store alone has changed is one of the same plugin
-pub ready_stays : (before after : InstanceState) → after ≡ record before { store = after.store } → after.ready ≡ before.ready
-ready_stays before after stays = ap (λ (i : InstanceState). i.ready) stays
-
 -- what is said by some records reaches these at least
 pub reaches_itself : (reach : Reach) (records told : Records) → told ≡ records → Reaches reach records told
 reaches_itself reach.Class records told same = ap (λ r. r.pod.third) same

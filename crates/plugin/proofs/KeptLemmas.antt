@@ -30,20 +30,11 @@ amounts_are a b cpu mem pods = λ j. record { cpu = record { 0 = cpu j }; mem = 
 
 -- ---- lists of which each element is so
 
-pub all_push : {A : Type 0} (P : A → Type 0) (xs : List A) (x : A) → AllByRecursion P xs → P x → AllByRecursion P (xs ++ x ∷ [])
-all_push P [] x all is = (is, tt)
-all_push P (y ∷ ys) x all is = (all.0, all_push P ys x all.1 is)
-
 pub all_insert : {A : Type 0} (P : A → Type 0) (xs : List A) (i : ℕ) (x : A) → AllByRecursion P xs → P x → AllByRecursion P (take i xs ++ x ∷ drop i xs)
 all_insert P [] zero x all is = (is, tt)
 all_insert P [] (suc i) x all is = (is, tt)
 all_insert P (y ∷ ys) zero x all is = (is, all)
 all_insert P (y ∷ ys) (suc i) x all is = (all.0, all_insert P ys i x all.1 is)
-
--- where there may be no memory for one more
-pub all_pushed : {A : Type 0} (P : A → Type 0) (xs : List A) (x : A) (there : Bool) → AllByRecursion P xs → P x → AllByRecursion P (if there then xs ++ x ∷ [] else xs)
-all_pushed P xs x true all is = all_push P xs x all is
-all_pushed P xs x false all is = all
 
 pub all_inserted : {A : Type 0} (P : A → Type 0) (xs : List A) (i : ℕ) (x : A) (there : Bool) → AllByRecursion P xs → P x
     → AllByRecursion P (if there then take i xs ++ x ∷ drop i xs else xs)
@@ -119,15 +110,6 @@ none_of of zero x k none = refl
 none_of of (suc n) x zero none = none
 none_of of (suc n) x (suc k) none = none_of of n x k none
 
-not_some : {V : Type 0} (o : Option V) (v : V) → o ≡ None → o ≡ Some v → ⊥
-not_some o v none some = cc
-
-pub nothing_holds : (Says : ℕ → Heard → Type 0) → AnswersHold Says (record { filters = replicate 16 0; scores = replicate 16 255 })
-nothing_holds Says = record {
-  filters = λ place said e. absurd (not_some _ said (none_of filter_of 16 0 place refl) e);
-  scores = λ place said e. absurd (not_some _ said (none_of score_of 16 255 place refl) e);
-}
-
 -- ---- what is known of a node
 
 pub note_known : (plugins : List Ready) (pod : List ℕ) (node : Node) (used : Res) (known : Known) (place : ℕ) (said : Heard) → Holds plugins pod node used known
@@ -186,11 +168,6 @@ score_known plugins records known place said is (inl e) = is.always.scores place
 score_known plugins records known place said is (inr e) = is.by_used.scores place said e
 
 -- ---- lines and classes
-
--- what is known of a line is known of this row, with so much used
-pub known_of_row : (plugins : List Ready) (pod : List ℕ) (line : Line) (node : Node) (used : Res) → line.node ≡ node → line.used ≡ used → LineHolds plugins pod line → Holds plugins pod node used line.known
-known_of_row plugins pod line node used of_node so_much hold =
-    subst (λ (n : Node). Holds plugins pod n used line.known) of_node (subst (λ (u : Res). Holds plugins pod line.node u line.known) so_much hold)
 
 -- a line of the row that a rule was asked of, with what it said
 pub heard_of_row : (plugins : List Ready) (pod : List ℕ) (line : Line) (node : Node) (used : Res) (place : ℕ) (said : Heard) (far : Reach) → line.node ≡ node → line.used ≡ used

@@ -1,6 +1,5 @@
 -- What a plugin said of all nodes it says of each.
-use Rattle.std.proofs.Common.{◌≡◌, ℕ, ◌<◌, List, Option, Some, None, IfSome, length, slice_get, sym, ap, ◌∙◌, subst, arith, inr}
-use Rattle.std.proofs.lemmas.List.{length-map}
+use Rattle.std.proofs.Common.{◌≡◌, ℕ, ◌<◌, List, Option, Some, None, IfSome, sym, ap, ◌∙◌, subst, inr}
 use Rattle.wmach.specs.declared.export.Export.{Export}
 use Rattle.wmach.specs.declared.outcome.Outcome.{Outcome}
 use Rattle.wmach.specs.Call.{MachineState}
@@ -9,9 +8,9 @@ use Rattle.whost.specs.declared.records.Records.{Records}
 use Rattle.whost.specs.declared.records.Versions.{Versions}
 use Rattle.rules.specs.declared.verdict.ScoreVerdict.{ScoreVerdict}
 use Rattle.rules.specs.Verdict.{IsWithin}
-use Rattle.plugin.specs.Kit.{Ready, InstanceState, Says, ready_parts}
+use Rattle.plugin.specs.Kit.{Ready, Says}
 use Rattle.plugin.specs.inside.Said.{SaidOfAll}
-use Rattle.plugin.proofs.KitLemmas.{ends_of_call, said_at}
+use Rattle.plugin.proofs.KitLemmas.{ends_of_call}
 
 -- with a pod that has the same records
 with_this_pod : {V : Type 0} (Says : Records → V → Type 0) (v : V) (first second third : List ℕ) (records : Records) → first ≡ records.pod.first → second ≡ records.pod.second → third ≡ records.pod.third
@@ -62,16 +61,3 @@ plugin_of weight fuel m = record { weight = weight; fuel = fuel; content = m.con
 -- it is the same where its instance's store alone has changed
 pub same_plugin : (weight fuel : ℕ) (before after : MachineState) → after ≡ record before { store = after.store } → plugin_of weight fuel before ≡ plugin_of weight fuel after
 same_plugin weight fuel before after stays = ap (λ (m : MachineState). plugin_of weight fuel m) (sym stays)
-
--- a kit whose plugins are those of another has as many
-pub as_many_instances : (old mid : List InstanceState) → ready_parts mid ≡ ready_parts old → length mid ≡ length old
-as_many_instances old mid same =
-    sym (length-map mid (λ (i : InstanceState). i.ready)) ∙ ap (λ (ps : List Ready). length ps) same ∙ length-map old (λ (i : InstanceState). i.ready)
-
--- what the plugin of a kit says by these records, where its stores alone have changed before
-pub of_the_kit : (old mid : List InstanceState) (place : ℕ) (told now : Records) (P : Ready → Records → Type 0) → place < length old
-    → ready_parts mid ≡ ready_parts old → told ≡ now → IfSome (slice_get mid place) (λ i. P i.ready told)
-    → (p : Ready) × (slice_get (ready_parts old) place ≡ Some p) × P p now
-of_the_kit old mid place told now P below same is says =
-    let at = said_at mid place (λ p. P p told) (omega (arith, as_many_instances old mid same, below)) says in
-    (at.0, subst (λ (ps : List Ready). slice_get ps place ≡ Some at.0) same at.1, subst (λ (r : Records). P at.0 r) is at.2)

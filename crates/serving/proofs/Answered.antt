@@ -105,18 +105,6 @@ module _ (Unkeyed : Type 0) (files : FilesUse) (source out err : DeviceUse) (end
       unread = subst (λ a. IfErr a (λ fault. (ended ≡ status_of (Words fault)) × TellsFault err (Words fault))) (sym is) tt;
     }
 
-    -- they ask for nothing, which is told
-    pub misused : (words : V) → args ≡ Ok words → asked_by texts args ≡ None → ended ≡ 2 → TellsFault err (told_of texts args) → AreUntouched
-        → IsAnswer texts args Unkeyed files source out err ended
-    misused words is none two tells h = done words None is none (record {
-      status = inl two;
-      words = λ _. tells;
-      room = λ three. absurd (omega (arith, two, three));
-      unopened = h.unopened;
-      unread = h.unread;
-      unwritten = h.unwritten;
-    })
-
     -- memory was wanting for them
     pub wanting_words : (words : V) → args ≡ Ok words → ended ≡ 3 → TellsFault err (Words word_fault.NoMemory) → AreUntouched
         → IsAnswer texts args Unkeyed files source out err ended

@@ -1,5 +1,5 @@
 -- What is written for a site is written by one of its kits.
-use Rattle.std.proofs.Common.{◌≡◌, ℕ, Bool, ◌≤◌, List, [], ◌∷◌, Option, Some, None, IfSome, refl, sym, ap, ◌∙◌, arith}
+use Rattle.std.proofs.Common.{◌≡◌, ℕ, Bool, ◌≤◌, List, [], ◌∷◌, Option, Some, None, IfSome, refl, ◌∙◌, arith}
 use Rattle.std.proofs.lemmas.List.Elements.{All-head}
 use Rattle.manifest.specs.declared.fault.LineFault.{LineFault}
 use Rattle.plugin.specs.Kit.{Ready, IsKitOf, rules_of}
@@ -8,7 +8,7 @@ use Rattle.output_lines.specs.declared.named_rule.NamedRule.{NamedRule}
 use Rattle.output_lines.specs.Telling.{telling}
 use Rattle.streams.specs.Script.{first_fault}
 use Rattle.engine.specs.Output.{WritesOutput, WritesFront}
-use Rattle.command.specs.Words.{SpecSyntax, Asked, run, explain, storm, check, translate, live, version}
+use Rattle.command.specs.Words.{SpecSyntax}
 use Rattle.site.specs.Site.{AreSiteKits, IsSiteKit, WritesSiteOutput, WritesSiteFront, named_of, told_by}
 use Rattle.site.proofs.Quiet.{output_front}
 
@@ -62,38 +62,3 @@ site_line explains specs modules workers kits named some are are_named (Some scr
     (first, site_output explains specs modules workers kits named some are are_named script old new writes)
 
 -- ---- what words ask for
-
-abbrev specs_in : Option Asked → List SpecSyntax
-specs_in None = []
-specs_in (Some (run workers specs)) = specs
-specs_in (Some (explain workers specs)) = specs
-specs_in (Some (storm cycles binders is_flaky specs)) = specs
-specs_in (Some (check file)) = []
-specs_in (Some (translate scheduler labels by_uid answers)) = []
-specs_in (Some (live scheduler labels workers specs)) = specs
-specs_in (Some version) = []
-
--- the plugins of a run that words ask for are those of the run that they were read as
-pub same_specs : (asked : Option Asked) (workers other : ℕ) (specs others : List SpecSyntax) → asked ≡ Some (run workers specs) → asked ≡ Some (run other others) → specs ≡ others
-same_specs asked workers other specs others one two = ap specs_in (sym one ∙ two)
-
--- what a storm has
-abbrev threads_in : Option Asked → ℕ × ℕ
-threads_in None = (0, 0)
-threads_in (Some (run workers specs)) = (0, 0)
-threads_in (Some (explain workers specs)) = (0, 0)
-threads_in (Some (storm cycles binders is_flaky specs)) = (cycles, binders)
-threads_in (Some (check file)) = (0, 0)
-threads_in (Some (translate scheduler labels by_uid answers)) = (0, 0)
-threads_in (Some (live scheduler labels workers specs)) = (0, 0)
-threads_in (Some version) = (0, 0)
-
--- a storm that words ask for is the one that they were read as
-pub same_storm : (asked : Option Asked) (cycles others binders other : ℕ) (flaky one : Bool) (specs these : List SpecSyntax) → asked ≡ Some (storm cycles binders flaky specs)
-    → asked ≡ Some (storm others other one these) → (cycles ≡ others) × (binders ≡ other) × (specs ≡ these)
-same_storm asked cycles others binders other flaky one specs these first second =
-    (ap (λ (a : Option Asked). (threads_in a).0) (sym first ∙ second), ap (λ (a : Option Asked). (threads_in a).1) (sym first ∙ second), ap specs_in (sym first ∙ second))
-
--- the plugins of an explanation that words ask for are those that they were read as
-pub same_explained : (asked : Option Asked) (workers other : ℕ) (specs others : List SpecSyntax) → asked ≡ Some (explain workers specs) → asked ≡ Some (explain other others) → specs ≡ others
-same_explained asked workers other specs others one two = ap specs_in (sym one ∙ two)

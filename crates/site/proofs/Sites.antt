@@ -1,13 +1,7 @@
 -- How plugins are configured one after the other, and kits made of them.
-use Rattle.std.proofs.Common.{◌≡◌, ℕ, zero, suc, ◌+◌, ◌<◌, ◌≤◌, List, [], ◌∷◌, ◌++◌, length, map, take, Option, Some, IfSome, slice_get, slice_index_or, All, refl, sym, ap, subst, ◌∙◌, arith, add-one}
+use Rattle.std.proofs.Common.{◌≡◌, ℕ, zero, suc, ◌+◌, ◌<◌, ◌≤◌, List, [], ◌∷◌, ◌++◌, length, map, take, Option, Some, IfSome, slice_get, slice_index_or, refl, sym, ap, subst, ◌∙◌, arith, add-one}
 use Rattle.std.proofs.lemmas.List.{length-map, map-append, take_all}
-use Rattle.std.proofs.lemmas.List.Elements.{All-contains}
-use Rattle.rules.specs.RuleSet.{RuleSet}
 use Rattle.plugin.specs.Plugins.{Configured, IsTaken, names}
-use Rattle.plugin.specs.Kit.{Ready, IsKitOf}
-use Rattle.plugin.specs.Laws.{KitsAreAlike}
-use Rattle.choose.specs.Kits.{JudgeAlike}
-use Rattle.fleet.proofs.Alike.{alike_where_same}
 use Rattle.command.specs.Words.{SpecSyntax, syntax_of}
 use Rattle.command.specs.Within.{HaveDistinctNames}
 use Rattle.command.specs.declared.asked.Spec.{Spec}
@@ -203,8 +197,3 @@ no_modules specs first old new i spec (Run run_fault.Write) at same why = absurd
 no_modules specs first old new i spec (Run run_fault.NoPlace) at same why = absurd why
 
 -- ---- kits
-
--- kits of the same plugins judge alike
-pub kits_judge_alike : (answers : List Ready → RuleSet) (plugins : List Configured) (kits : List (List Ready)) → KitsAreAlike → All (IsKitOf plugins) kits → JudgeAlike answers kits
-kits_judge_alike answers plugins kits alike all =
-    alike_where_same answers kits (λ one other first second. alike plugins one other (All-contains (IsKitOf plugins) kits one all first) (All-contains (IsKitOf plugins) kits other all second))

@@ -104,8 +104,3 @@ fronts_whole (Some whole) bytes old new front told =
 pub status_is : (verdict : Verdict) (n : ℕ) → n ≡ status_for verdict → (n ≡ 0) ⊎ ((n ≡ 1) ⊎ (n ≡ 4))
 status_is Accepted n e = inl e
 status_is (Refused why) n e = inr (inl e)
-
--- and at most 1
-pub status_low : (verdict : Verdict) (n : ℕ) → n ≡ status_for verdict → n ≤ 1
-status_low Accepted n e = omega (arith, e)
-status_low (Refused why) n e = omega (arith, e)

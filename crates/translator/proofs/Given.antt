@@ -67,11 +67,6 @@ empty_version : (version : ℕ) (event : Option Event) (line : List ℕ) → Spe
 empty_version version None line spells none = refl
 empty_version version (Some event) line spells none = absurd (no_meaning _ (ap meaning (sym none) ∙ spells.0))
 
--- and another is that of one
-other_version : (version : ℕ) (event : Option Event) (x : ℕ) (more line : List ℕ) → Spells event line → line ≡ x ∷ more → next_version version event ≡ version + 1
-other_version version None x more line spells some = let no : [] ≡ x ∷ more = sym spells ∙ some in cc
-other_version version (Some event) x more line spells some = refl
-
 pub version_of_none : (version : ℕ) (given : Told) (translation : Translation) → length translation.line.items ≡ 0 → IsTranslation given translation
     → version ≡ next_version version given.event
 version_of_none version given translation none is = by translation.line.items refl none
@@ -79,11 +74,3 @@ version_of_none version given translation none is = by translation.line.items re
     by : (line : List ℕ) → translation.line.items ≡ line → length translation.line.items ≡ 0 → version ≡ next_version version given.event
     by [] same none = sym (empty_version version given.event translation.line.items is.line same)
     by (x ∷ more) same none = let some : length (x ∷ more) ≡ 0 = ap length (sym same) ∙ none in cc
-
-pub version_of_one : (version : ℕ) (given : Told) (translation : Translation) → length translation.line.items ≢ 0 → IsTranslation given translation
-    → version + 1 ≡ next_version version given.event
-version_of_one version given translation some is = by translation.line.items refl
-  where
-    by : (line : List ℕ) → translation.line.items ≡ line → version + 1 ≡ next_version version given.event
-    by [] same = absurd (some (ap length same))
-    by (x ∷ more) same = sym (other_version version given.event x more translation.line.items is.line same)

@@ -80,9 +80,6 @@ from_number n lines = let e : n ≡ n + 0 = omega arith in ap (λ (k : ℕ). fau
 behind : (a b : List (List ℕ)) → fault_from watched 0 a ≡ None → fault_from watched 0 (a ++ b) ≡ option_map (further watched (length a)) (fault_from watched 0 b)
 behind a b none = let e : 0 + length a ≡ length a = omega arith in fault_both watched 0 a b none ∙ ap (λ (k : ℕ). fault_from watched k b) e ∙ from_number (length a) b
 
-pub steps_none : (steps : List Step) → steps ≡ [] → AreSteps [] steps
-steps_none steps is = record { none_faulty = refl; asked = is }
-
 pub steps_both : (a b : List (List ℕ)) (s t : List Step) → AreSteps a s → AreSteps b t → AreSteps (a ++ b) (s ++ t)
 steps_both a b s t one other = record {
   none_faulty = behind a b one.none_faulty ∙ ap (option_map (further watched (length a))) other.none_faulty;
@@ -135,10 +132,6 @@ texts_cut text lines k = ap (map text) (sym (take-append-drop k lines)) ∙ map-
 
 first_many : {V : Type 0} (text : V → List ℕ) (lines : List V) (k : ℕ) → k < length lines → length (map text (take k lines)) ≡ k
 first_many text lines k lt = length-map (take k lines) text ∙ omega (arith, length-take k lines)
-
--- want of memory at a line
-pub memory_fault : {V : Type 0} (text : V → List ℕ) (lines : List V) (k : ℕ) → k < length lines → IsFaulty (map text lines) (record { before = k; fault = faults.NoMemory })
-memory_fault text lines k lt = record { there = omega (arith, length-map lines text); first = λ other. absurd (other refl) }
 
 module _ {V : Type 0} (text : V → List ℕ) (lines : List V) (k : ℕ) (x : V) (steps : List Step) (lt : k < length lines) (is : x ≡ get_or lines k x) (so_far : AreSteps (map text (take k lines)) steps) where
   more_texts : map text (take (k + 1) lines) ≡ map text (take k lines) ++ text x ∷ []
@@ -202,10 +195,6 @@ module _ {V : Type 0} (text : V → List ℕ) (lines : List V) (mid : ℕ) (s : 
     }
 
 -- ---- lines that are taken off a source
-
-pub none_taken : (known : Option (List ℕ)) (lines : List (List ℕ)) → lines ≡ [] → TakesLines known known lines
-none_taken None lines is = tt
-none_taken (Some text) lines is = ([], is, refl)
 
 pub one_taken : (old between new : Option (List ℕ)) (lines : List (List ℕ)) (line : List ℕ) → TakesLines old between lines → TakesLine between new line → TakesLines old new (lines ++ line ∷ [])
 one_taken None between new lines line so_far took = tt

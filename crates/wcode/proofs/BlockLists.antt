@@ -9,10 +9,10 @@ use Rattle.wcode.specs.declared.instruction.Plain.{Plain}
 use Rattle.wcode.specs.declared.opcode.Opening.TheVariants as openings
 use Rattle.wcode.specs.Syntax.{Body, done, plain, block, loop, if_else, br_table}
 use Rattle.wcode.specs.Grammar.{Word, one, opens, otherwise, end, table, SpellsWord, SpellsBody}
-use Rattle.wcode.specs.inside.Ended.{closing, SpellsArms, NoBody}
+use Rattle.wcode.specs.inside.Ended.{closing, SpellsArms}
 use Rattle.wcode.specs.Blocks.{EndsAt, SpellsBlocks}
 use Rattle.wcode.specs.inside.Skipped.{BlocksFirst, ArmsBlocks}
-use Rattle.wcode.proofs.Items.{item_none, item_then, item_plain, item_table, item_no}
+use Rattle.wcode.proofs.Items.{item_none, item_then, item_plain, item_table}
 use Rattle.wcode.proofs.Bodies.{item_block, item_loop, item_if}
 
 -- a body with its blocks is that body
@@ -115,9 +115,6 @@ pub passed_ends : (bytes : List ℕ) (room at : ℕ) (old : List Block) (place :
 unfolding SpellsBlocks
 passed_ends bytes room at old place new e next h w =
     subst (SpellsBlocks bytes room (closing e) (drop at bytes) (h.made done) (drop next bytes)) (append-nil h.inside) (h.first.sound (closing e) done (drop next bytes) [] (w, refl))
-
-pub passed_no : (bytes : List ℕ) (room at : ℕ) (old : List Block) (place : ℕ) (new : List Block) → HasPassed bytes room at old place new → NoBody room (drop place bytes) → NoBody room (drop at bytes)
-passed_no bytes room at old place new h none = item_no room (drop at bytes) h.made (drop place bytes) h.first.stands none
 
 -- a block that was opened and is closed
 pub closed : (old before inside new now : List Block) (unset here : Block) (index : ℕ) → index ≡ length old → before ≡ old ++ unset ∷ [] → new ≡ before ++ inside → now ≡ set new index here

@@ -58,10 +58,6 @@ item_same room bytes f g rest e h = record {
 abbrev pub OnlyBody : ℕ → Bool → List ℕ → Body → List ℕ → Type 0
 OnlyBody room d bytes body rest = (e : Bool) (other : Body) (more : List ℕ) → SpellsBody room (closing e) bytes other more → (d ≡ e) × (body ≡ other) × (rest ≡ more)
 
--- nothing comes after what an item and no more can't be
-pub item_no : (room : ℕ) (bytes : List ℕ) (f : Body → Body) (rest : List ℕ) → StandsFirst room bytes f rest → NoBody room rest → NoBody room bytes
-item_no room bytes f rest h none e body after s = let p = h.only e body after s in none e p.0 after p.2
-
 plain_only : (room : ℕ) (bytes : List ℕ) (p : Plain) (rest : List ℕ) → SpellsWord bytes (one p) rest → (e : Bool) (body : Body) (after : List ℕ)
     → SpellsBody room (closing e) bytes body after → one p ≡ first (closing e) body → (next : Body) × (body ≡ plain p next) × SpellsBody room (closing e) rest next after
 unfolding SpellsBody

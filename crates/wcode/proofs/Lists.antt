@@ -3,9 +3,9 @@ use Rattle.std.proofs.Common.{◌≡◌, ℕ, ◌+◌, ◌<◌, ◌≤◌, Bool,
 use Rattle.wcode.specs.declared.instruction.Instr.{Instr}
 use Rattle.wcode.specs.Syntax.{Body, done, with_instr, body_of}
 use Rattle.wcode.specs.Grammar.{SpellsIndex, SpellsIndices, SpellsWord, SpellsBody}
-use Rattle.wcode.specs.inside.Ended.{closing, NoBody, StandsFirst}
+use Rattle.wcode.specs.inside.Ended.{closing, StandsFirst}
 use Rattle.wcode.proofs.Words.{indices_push, indices_once, indices_next}
-use Rattle.wcode.proofs.Items.{item_none, item_then, item_same, item_no}
+use Rattle.wcode.proofs.Items.{item_none, item_then, item_same}
 
 -- instructions before what comes after them
 abbrev pub onto : List Instr → Body → Body
@@ -42,9 +42,6 @@ unfolding SpellsBody
 items_end bytes room at is place e next h w =
     let s = h.stands.sound (closing e) done (drop next bytes) w in
     subst (λ b. SpellsBody room (closing e) (drop at bytes) b (drop next bytes)) (onto_done is) s
-
-pub items_no : (bytes : List ℕ) (room at : ℕ) (is : List Instr) (place : ℕ) → HasItems bytes room at is place → NoBody room (drop place bytes) → NoBody room (drop at bytes)
-items_no bytes room at is place h none = item_no room (drop at bytes) (onto is) (drop place bytes) h.stands none
 
 -- These labels have been read.
 pub record HasLabels (bytes : List ℕ) (at : ℕ) (labels : List ℕ) (place count : ℕ) : Type 0 where

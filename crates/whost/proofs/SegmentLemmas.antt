@@ -3,7 +3,7 @@ use Rattle.std.proofs.Common.{◌≡◌, ℕ, zero, suc, ◌+◌, ◌<◌, ◌�
 use Rattle.std.proofs.lemmas.Bool.{false≢true}
 use Rattle.std.proofs.lemmas.List.{length-map}
 use Rattle.std.proofs.lemmas.Option.{get_or_from_slice_get, slice_get_within}
-use Rattle.std.proofs.Math.Seq.{drop-cons, drop-length}
+use Rattle.std.proofs.Math.Seq.{drop-cons}
 use Rattle.wbin.specs.Syntax.{ElementSyntax, DataSyntax, ModuleParts, module_of}
 use Rattle.wstore.specs.Store.{Store}
 use Rattle.wstore.specs.Segments.{ElementsFit, DataFits, with_elements, with_data, offset_of}
@@ -31,22 +31,12 @@ one_more {X} P xs i test less means passed before =
     let all : (k : ℕ) → k < i + 1 → (d : X) → P (get_or xs k d) = below_more (λ k. (d : X) → P (get_or xs k d)) i (λ k h d. before k d h) here in
     λ k d h. all k h d
 
--- machines that are alike in all parts
-pub same_machine : (a b : MachineState) → a.content ≡ b.content → a.image ≡ b.image → a.store ≡ b.store → a ≡ b
-same_machine a b content image store =
-    let made : ModuleParts → Store → Store → MachineState = λ c s i. record { content = c; store = s; image = i } in
-    ap (λ c. made c a.store a.image) content ∙ ap (λ s. made b.content s a.image) store ∙ ap (λ i. made b.content b.store i) image
-
 -- what is left to be written, once the segment at a place is written
 pub rest_step : {X : Type 0} (put : Store → X → Store) (xs : List X) (i : ℕ) (x : X) (store : Store) → i < length xs → get_or xs i x ≡ x → fold put (put store x) (drop (i + 1) xs) ≡ fold put store (drop i xs)
 rest_step put xs i x store less is =
     ap (λ n. fold put (put store x) (drop n xs)) (add-one i)
     ∙ ap (λ y. fold put store (y ∷ drop (suc i) xs)) (sym is)
     ∙ ap (λ l. fold put store l) (sym (drop-cons xs i x less))
-
--- nothing is left behind the last
-pub rest_end : {X : Type 0} (put : Store → X → Store) (xs : List X) (i : ℕ) (store : Store) → i ≡ length xs → fold put store (drop i xs) ≡ store
-rest_end put xs i store is = ap (λ n. fold put store (drop n xs)) is ∙ ap (λ l. fold put store l) (drop-length xs)
 
 -- ---- elements
 
@@ -84,11 +74,6 @@ elements_step before now after i less w written =
     } in
     subst (λ m. ElementsWritten before m (i + 1)) (sym (written s.0 got)) next
 
-pub elements_end : (before now : MachineState) (i : ℕ) → i ≡ length (module_of before.content).element_segments → ElementsWritten before now i → now ≡ record before { store = with_all_elements (module_of before.content).element_segments before.store }
-elements_end before now i is w =
-    same_machine now (record before { store = with_all_elements (module_of before.content).element_segments before.store }) w.content w.image
-    (sym (rest_end (λ store t. with_elements t store) (module_of before.content).element_segments i now.store is) ∙ w.rest)
-
 -- ---- data
 
 -- a segment that fits does so where another one was written
@@ -124,11 +109,6 @@ data_step before now after i less w written =
       rest = rest_step (λ store t. with_data t store) segments i s.0 now.store less s.2 ∙ w.rest;
     } in
     subst (λ m. DataWritten before m (i + 1)) (sym (written s.0 got)) next
-
-pub data_end : (before now : MachineState) (i : ℕ) → i ≡ length (module_of before.content).data_segments → DataWritten before now i → now ≡ record before { store = with_all_data (module_of before.content).data_segments before.store }
-data_end before now i is w =
-    same_machine now (record before { store = with_all_data (module_of before.content).data_segments before.store }) w.content w.image
-    (sym (rest_end (λ store t. with_data t store) (module_of before.content).data_segments i now.store is) ∙ w.rest)
 
 -- ---- both
 

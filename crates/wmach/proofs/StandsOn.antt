@@ -61,10 +61,6 @@ abbrev Before : ℕ → Branch → Type 0
 Before place b = b.at < place
 
 module _ (w : Whole) (all : List Branch) where
-  -- how long the bytes are from there on
-  within_of : (os : List Open) (b : Body) (types : Operands) (front : List ℕ) → Stands w all os b types front → length front ≤ length w.bytes
-  within_of os b types front s = s.within.within
-
   -- over an instruction that is left
   pub stands_plain : (os : List Open) (p : Plain) (b : Body) (types between : Operands) (front more : List ℕ) (s : Stands w all os (plain p b) types front) → SpellsWord front (one p) more → Typed (context_in w os) b between s.leaves → height_after (context_in w os) p (floor_in os) (floor_in os + length types) ≡ floor_in os + length between → Moves w all os b between front more (length (plain_branches (labels_in w os) (place_of w front) p))
   unfolding SpellsBody branches_of

@@ -1,7 +1,6 @@
 -- Facts about buffers of bytes that are zero from a place on, and about writes within them.
-use Rattle.std.proofs.Common.{◌≡◌, ℕ, zero, suc, ◌+◌, ◌-◌, ◌*◌, ◌/◌, ◌%◌, ◌^◌, ◌≤◌, ◌<◌, List, [], ◌∷◌, ◌++◌, length, take, drop, slice_range, refl, ap, sym, ◌∙◌, arith, append_assoc, add-one, set, get_or, replicate, length-append, inl, inr}
-use Rattle.std.proofs.lemmas.List.{length-replicate, drop-replicate, take-replicate, drop-drop, drop-take, length-take-le, drop-append-le, take-append-le, take-append-drop, take_at, drop_at, take-take, set_split, get_or_append_left, get_or-append_right, get_or_past, get_or-replicate, append-nil, replicate-append-replicate}
-use Rattle.std.proofs.lemmas.Bool.{cases_lt}
+use Rattle.std.proofs.Common.{◌≡◌, ℕ, zero, suc, ◌+◌, ◌-◌, ◌*◌, ◌/◌, ◌%◌, ◌^◌, ◌≤◌, ◌<◌, List, [], ◌∷◌, ◌++◌, length, take, drop, slice_range, refl, ap, sym, ◌∙◌, arith, append_assoc, add-one, set, length-append}
+use Rattle.std.proofs.lemmas.List.{length-replicate, drop-replicate, take-replicate, drop-drop, drop-take, length-take-le, drop-append-le, take-append-le, take-append-drop, take_at, drop_at, take-take, set_split, append-nil, replicate-append-replicate}
 use Rattle.std.proofs.lemmas.Slice.{drop-append-drop}
 use Rattle.std.proofs.Math.Seq.{take-add}
 use Rattle.std.proofs.Math.Nat.{mod-one}
@@ -27,24 +26,6 @@ drop-zeros place count = drop-replicate place count 0
 pub take-zeros : (place count : ℕ) → place ≤ count → take place (zeros count) ≡ zeros place
 unfolding zeros
 take-zeros place count h = take-replicate place count 0 h
-
--- a list that is longer by what is read past its end anyway reads as before
-pub get_or-lengthened : {A : Type 0} (xs : List A) (more k : ℕ) (d : A) → get_or (xs ++ replicate more d) k d ≡ get_or xs k d
-get_or-lengthened {A} xs more k d = elim (cases_lt k (length xs)) [
-  | inl within ↦ get_or_append_left xs (replicate more d) d k within
-  | inr past ↦ (
-      get_or-append_right xs (replicate more d) (length xs) k d refl past
-      ∙ elim (cases_lt (k - length xs) more) as (λ _. get_or (replicate more d) (k - length xs) d ≡ d) [
-        | inl new ↦ get_or-replicate more (k - length xs) d d new
-        | inr behind ↦ get_or_past (replicate more d) (k - length xs) d (rw (length-replicate {A = A}) behind)
-      ]
-      ∙ sym (get_or_past xs k d past))
-]
-
--- zeros behind a buffer are as if they weren't there, and no zeros are nothing
-pub byte_of_longer : (buffer : List ℕ) (more k : ℕ) → get_or (buffer ++ zeros more) k 0 ≡ get_or buffer k 0
-unfolding zeros
-byte_of_longer buffer more k = get_or-lengthened buffer more k 0
 
 pub no_zeros : (buffer : List ℕ) (count : ℕ) → count ≡ 0 → buffer ≡ buffer ++ zeros count
 unfolding zeros

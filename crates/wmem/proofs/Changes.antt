@@ -15,11 +15,6 @@ use Rattle.wmem.proofs.Buffers.{length-zeros, length-longer, clear_longer, take-
 pub length-bytes : (memory : Inside) → IsSound memory → length (take memory.len memory.tracked.bytes) ≡ memory.len
 length-bytes memory sound = length-take-le memory.len memory.tracked.bytes sound.opened
 
--- as many bytes of the image are seen as are in use
-pub length-image : (memory : Inside) → IsSound memory → length (take memory.image_len memory.tracked.image) ≡ memory.image_len
-length-image memory sound =
-    length-take-le memory.image_len memory.tracked.image (omega (arith, sound.same, sound.opened, sound.grown))
-
 -- a buffer written through a slice of all of it holds what was written
 pub written_items : (buffer : Vec ℕ Global) (slice written : List ℕ) (at : ℕ) (new : List ℕ) → slice ≡ buffer.items
     → at + length new ≤ length buffer.items → written ≡ with_bytes slice at new

@@ -1,10 +1,9 @@
 -- Facts about flags and the list of the places where they are set.
-use Rattle.std.proofs.Common.{◌≡◌, ℕ, ◌+◌, ◌*◌, ◌/◌, ◌<◌, ◌≤◌, Bool, true, false, cond, List, [], ◌∷◌, ◌++◌, length, get_or, set, replicate, refl, sym, subst, ap, ◌∙◌, inl, inr, arith, length-set, length-append, get_or-set_other}
+use Rattle.std.proofs.Common.{◌≡◌, ℕ, ◌+◌, ◌*◌, ◌/◌, ◌<◌, ◌≤◌, Bool, true, false, cond, List, [], ◌∷◌, ◌++◌, length, get_or, set, refl, sym, subst, ap, ◌∙◌, inl, inr, arith, length-set, length-append, get_or-set_other}
 use Rattle.std.specs.List.{count_by, Contains}
 use Rattle.std.proofs.lemmas.List.Elements.{All-append, Contains-push, Contains-append_left}
 use Rattle.std.proofs.lemmas.List.Sums.{count_by-le-length, sum_by-set, sum_by-append}
-use Rattle.std.proofs.lemmas.List.{length-replicate, get_or_append_left, get_or_past, get_or_push}
-use Rattle.wmem.proofs.Buffers.{get_or-lengthened}
+use Rattle.std.proofs.lemmas.List.{get_or_append_left, get_or_past, get_or_push}
 use Rattle.std.proofs.lemmas.Grind.{get_or_head}
 use Rattle.std.proofs.lemmas.Bool.{cases_eq, cases_lt}
 use Rattle.wmem.specs.inside.Noted.{is_set, AreIn, IsListed}
@@ -38,19 +37,6 @@ pub listed_room : (flags : List Bool) (order : List ℕ) (room page : ℕ) → I
     → page < length flags → get_or flags page true ≡ false → length order < length flags
 listed_room flags order room page listed within fresh =
     omega (arith, count-set_true flags page within fresh, listed.few, count_by-le-length is_set (set flags page true), length-set flags page true)
-
--- pages that are new and not noted keep the list right
-pub extend_listed : (flags : List Bool) (order : List ℕ) (room more : ℕ) → IsListed (record { flags = flags; order = order; room = room })
-    → IsListed (record { flags = flags ++ replicate more false; order = order; room = room })
-extend_listed flags order room more listed =
-    let one : Bool → ℕ = λ flag. cond (is_set flag) 1 0 in
-    let longer : length (flags ++ replicate more false) ≡ length flags + more =
-    length-append flags (replicate more false) ∙ ap (λ (n : ℕ). length flags + n) (length-replicate more false) in
-    record {
-      covers = λ page is. listed.covers page (sym (get_or-lengthened flags more page false) ∙ is);
-      within = λ k d h. omega (arith, listed.within k d h, longer);
-      few = omega (arith, listed.few, sum_by-append one flags (replicate more false));
-    }
 
 -- Marks of the first large pages: so many are set, and where one isn't none of its sixteen pages is
 -- noted.

@@ -1,13 +1,13 @@
 -- What writes and copies of pages do to buffers that agree on each page that isn't noted.
-use Rattle.std.proofs.Common.{◌≡◌, ℕ, ◌+◌, ◌-◌, ◌*◌, ◌/◌, ◌≤◌, ◌<◌, Bool, true, false, List, [], ◌++◌, length, get_or, take, drop, set, sym, ap, ◌∙◌, inl, inr, arith, length-append, length-set, length-drop, get_or-set_other, get_or-set_same, replicate, refl}
-use Rattle.std.proofs.lemmas.List.{get_or_append_left, get_or-append_right, get_or-take, get_or-drop, length-take-le, ext_get_or, length-replicate}
+use Rattle.std.proofs.Common.{◌≡◌, ℕ, ◌+◌, ◌-◌, ◌*◌, ◌/◌, ◌≤◌, ◌<◌, Bool, true, false, List, [], ◌++◌, length, get_or, take, drop, set, sym, ap, ◌∙◌, inl, inr, arith, length-append, length-set, length-drop, get_or-set_other, get_or-set_same}
+use Rattle.std.proofs.lemmas.List.{get_or_append_left, get_or-append_right, get_or-take, get_or-drop, length-take-le, ext_get_or}
 use Rattle.std.proofs.lemmas.Bool.{cases_eq, cases_lt}
 use Rattle.wmem.specs.declared.access.Width.{Width}
 use Rattle.wmem.specs.declared.access.Width.TheVariants.{One, Two, Four, Eight}
 use Rattle.wmem.specs.Access.{with_bytes, byte_count}
-use Rattle.wmem.specs.inside.Noted.{Noted, no_pages, with_pages}
-use Rattle.wmem.specs.inside.Tracked.{AgreesElsewhere, stretch, TrackedBytes, IsTracked, extended}
-use Rattle.wmem.proofs.Buffers.{length-with_bytes, get_or-lengthened, byte_of_longer, length-longer}
+use Rattle.wmem.specs.inside.Noted.{Noted}
+use Rattle.wmem.specs.inside.Tracked.{AgreesElsewhere, stretch, TrackedBytes, IsTracked}
+use Rattle.wmem.proofs.Buffers.{length-with_bytes}
 
 -- a byte before a write is left
 pub byte_before : (buffer : List ℕ) (at : ℕ) (new : List ℕ) (k : ℕ) → at + length new ≤ length buffer → k < at
@@ -138,28 +138,3 @@ two_pages flags at count last k some few within is low high =
           get_or-set_other first last (k / stretch) true false ne
           ∙ ap (λ (p : ℕ). get_or first p false) on_first ∙ set_now flags (at / stretch) (omega arith))
     ]
-
--- no pages at all are tracked
-pub new_tracked : (room : ℕ) → IsTracked (record { bytes = []; image = []; noted = no_pages room })
-new_tracked room = record { whole = omega arith; same = refl; agrees = λ k unset. refl }
-
--- more pages of zeros in both, which aren't noted, keep the buffers tracked
-pub extend_tracked : (t : TrackedBytes) (pages : ℕ) → IsTracked t
-    → IsTracked (record { bytes = extended t.bytes pages; image = extended t.image pages; noted = with_pages t.noted pages })
-extend_tracked t pages tracked =
-    let flags : List Bool = t.noted.flags in
-    let more : ℕ = stretch * pages - length t.bytes in
-    let image_more : ℕ = stretch * pages - length t.image in
-    let new_flags : ℕ = pages - length flags in
-    let bytes_longer : length (extended t.bytes pages) ≡ length t.bytes + more = length-longer t.bytes more in
-    let image_longer : length (extended t.image pages) ≡ length t.image + image_more = length-longer t.image image_more in
-    let flags_longer : length (flags ++ replicate new_flags false) ≡ length flags + new_flags =
-    length-append flags (replicate new_flags false) ∙ ap (λ (n : ℕ). length flags + n) (length-replicate new_flags false) in
-    record {
-      whole = omega (arith, bytes_longer, flags_longer, tracked.whole);
-      same = omega (arith, bytes_longer, image_longer, tracked.same);
-      agrees = λ k unset.
-          byte_of_longer t.bytes more k
-          ∙ tracked.agrees k (sym (get_or-lengthened flags new_flags (k / stretch) false) ∙ unset)
-          ∙ sym (byte_of_longer t.image image_more k);
-    }

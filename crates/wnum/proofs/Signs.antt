@@ -1,7 +1,7 @@
 -- The signed interpretation is std's reading of a signed type, and so are the relations, the shift
 -- and the extension that rest on it.
 use Rattle.std.proofs.Common.{lt-ltb, le-ltb, ◌≡◌, ℕ, suc, ◌+◌, ◌-◌, ◌*◌, ◌/◌, ◌%◌, ◌^◌, ◌<◌, ◌≤◌, ◌⊎◌, inl, inr, ℤ, pos, negsuc, ◌-ℤ◌, cond, nat_lt, refl, ap, ap₂, ◌∙◌, subst, arith, add-one, add-mul, suc-mul, pow_pos, pow-add, mod-lt}
-use Rattle.std.proofs.lemmas.Int.{ints, to_z_pos, of_z-to_z}
+use Rattle.std.proofs.lemmas.Int.{ints, to_z_pos}
 use native.Mathlib.Nat.{div-eq_of_lt}
 use lib.Pow.{shr_lt}
 use Rattle.wnum.proofs.Counts.{top_one}
@@ -131,10 +131,6 @@ ishr_s_is w a b p = shifted_right (top_bit (bits w) a) (b % bits w) (bits w) a s
     go (inr l) =
         let top : top_bit (bits w) a ≡ 1 = ap (λ (x : ℕ). top_bit x a) (bits_is w) ∙ top_upper (hbits w) a l (subst (λ (x : ℕ). a < 2 ^ x) (bits_is w) p) in
         rw (to_z_upper w a l, top) (copies (b % bits w) (bits w) a small p)
-
--- a number of std's signed type, which went to its bits and back
-pub read_back : (w : Width) (z : ℤ) (a : ℕ) → a < 2 ^ bits w → z ≡ to_z w a → to_z w (of_z w z) ≡ to_z w a
-read_back w z a h e = ap (λ (x : ℤ). to_z w (of_z w x)) e ∙ ap (to_z w) (of_z-to_z w a h)
 
 -- `from_signed` is the inverse of `signed`
 pub from_signed-signed : (N i : ℕ) → i < 2 ^ N → from_signed N (signed N i) ≡ i

@@ -1,5 +1,5 @@
 -- What each change of a store's fields does to what they mean, and that it keeps them sound.
-use Rattle.std.proofs.Common.{◌≡◌, ℕ, ◌+◌, ◌*◌, ◌<◌, ◌≤◌, List, Option, Some, Result, Ok, Err, length, map, set, sym, ap, ◌∙◌, subst, arith, length-set}
+use Rattle.std.proofs.Common.{◌≡◌, ℕ, ◌+◌, ◌*◌, ◌<◌, ◌≤◌, List, Option, Some, length, map, set, sym, ap, ◌∙◌, subst, arith, length-set}
 use Rattle.std.specs.Prelude.{slice_get, IfSome}
 use Rattle.std.specs.Arc.{arc_value}
 use Rattle.std.specs.List.{AllByRecursion}
@@ -7,9 +7,7 @@ use Rattle.std.proofs.lemmas.List.{length-map}
 use Rattle.wcode.specs.declared.value.Value.{Value}
 use Rattle.wcode.specs.Operators.{type_of}
 use Rattle.wmem.specs.declared.trap.Trap.{Trap}
-use Rattle.wmem.specs.declared.trap.Trap.TheVariants.{HostOutOfBounds}
-use Rattle.wmem.specs.Access.{with_bytes}
-use Rattle.wmem.specs.Memory.{MemoryInstance, IsMemory, WriteGives, new_memory, page_size}
+use Rattle.wmem.specs.Memory.{MemoryInstance, IsMemory, new_memory, page_size}
 use Rattle.wmem.proofs.Buffers.{length-zeros}
 use Rattle.wbin.specs.declared.module.GlobalVariable.{GlobalVariable}
 use Rattle.wbin.specs.declared.module.Limits.{Limits}
@@ -24,7 +22,7 @@ use Rattle.wstore.specs.Store.{cap_of, first_memory, first_table}
 use Rattle.wstore.specs.inside.Store.{least_of}
 use Rattle.wstore.specs.Fits.{StoreFits}
 use Rattle.wstore.specs.Segments.{overwritten}
-use Rattle.wstore.specs.State.{StoreState, syntax_of, new_state, with_current, with_globals, with_number}
+use Rattle.wstore.specs.State.{StoreState, syntax_of, new_state, with_globals, with_number}
 use Rattle.wstore.specs.inside.Inside.{parts_of, state_of, GlobalsFit, IsSound}
 use Rattle.wstore.proofs.Globals.{length-values, values_set, in_range_set, types_in, first_values, first_values_in_range}
 use Rattle.wstore.proofs.Sizes.{memory_fits, table_fits_put, first_table_fits, first_zeros}
@@ -99,23 +97,6 @@ put_sound s later at functions sound within is image_is all = record {
   table = rw is (table_fits_put (module_of (parts_of s)) (parts_of s).tables.tables.items s.table.places at functions within sound.table all);
   image_table = rw image_is sound.image_table;
 }
-
-pub put_view : (s : Inside) (later : WithImage (Option ℕ)) (at : ℕ) (functions : List ℕ)
-    → later.places ≡ overwritten s.table.places at (map (λ (f : ℕ). Some f) functions) → later.image ≡ s.table.image
-    → state_of (record s { table = later }) ≡ with_current (state_of s) (record (state_of s).current { table = overwritten s.table.places at (map (λ (f : ℕ). Some f) functions) })
-put_view s later at functions is image_is =
-    let seen : WithImage (Option ℕ) → StoreState = λ elements. state_of (record s { table = elements }) in
-    ap seen (both later (overwritten s.table.places at (map (λ (f : ℕ). Some f) functions)) s.table.image is image_is)
-
--- bytes that fit are written
-pub data_put : (memory later : MemoryInstance) (at : ℕ) (bytes : List ℕ) (r : Result (Unit {0}) Trap) → WriteGives HostOutOfBounds memory at bytes r later
-    → at + length bytes ≤ length memory.bytes → later ≡ record memory { bytes = with_bytes memory.bytes at bytes }
-data_put memory later at bytes (Ok done) gives fits = gives.1
-data_put memory later at bytes (Err trap) gives fits = absurd (omega (arith, gives.0))
-
-pub data_view : (s : Inside) (later : MemoryInstance) (at : ℕ) (bytes : List ℕ) → later ≡ record s.memory { bytes = with_bytes s.memory.bytes at bytes }
-    → state_of (record s { memory = later }) ≡ with_current (state_of s) (record (state_of s).current { memory = with_bytes s.memory.bytes at bytes })
-data_view s later at bytes is = let seen : MemoryInstance → StoreState = λ memory. state_of (record s { memory = memory }) in ap seen is
 
 -- ---- the image
 

@@ -1,16 +1,9 @@
 -- Lists that are written from a place on.
-use Rattle.std.proofs.Common.{◌≡◌, ℕ, zero, suc, ◌+◌, ◌<◌, ◌≤◌, List, [], ◌∷◌, ◌++◌, Option, Some, length, map, take, drop, get_or, set, sym, ap, ◌∙◌, arith, length-append, length-drop, add-zero, append_assoc}
+use Rattle.std.proofs.Common.{◌≡◌, ℕ, zero, suc, ◌+◌, ◌<◌, ◌≤◌, List, [], ◌∷◌, ◌++◌, Option, Some, length, map, take, drop, get_or, set, sym, ap, ◌∙◌, arith, length-append, length-drop, append_assoc}
 use Rattle.std.specs.List.{AllByRecursion}
-use Rattle.std.proofs.lemmas.List.{append-nil, take-append-drop, take_more, map-append, length-map, length-take-le}
+use Rattle.std.proofs.lemmas.List.{take_more, map-append, length-map, length-take-le}
 use Rattle.std.proofs.Math.Seq.{set-append_seam, drop-cons}
 use Rattle.wstore.specs.Segments.{overwritten}
-
--- nothing is written
-pub none_written : {A : Type 0} (xs : List A) (at : ℕ) → overwritten xs at [] ≡ xs
-none_written xs at =
-    ap (λ (n : ℕ). (take at xs ++ []) ++ drop n xs) (add-zero at)
-    ∙ ap (λ front. front ++ drop at xs) (append-nil (take at xs))
-    ∙ take-append-drop at xs
 
 -- as many stand before what is left
 front_length : {A : Type 0} (xs : List A) (at : ℕ) (new : List A) → at + length new ≤ length xs → length (take at xs ++ new) ≡ at + length new

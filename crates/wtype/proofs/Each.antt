@@ -2,7 +2,7 @@
 use Rattle.std.proofs.Common.{◌≡◌, ℕ, zero, suc, ◌+◌, ◌<◌, ◌≤◌, List, [], ◌∷◌, ◌++◌, Some, length, map, get_or, take, drop, Result, Ok, Err, refl, sym, ap, ◌∙◌, subst, arith}
 use Rattle.std.specs.Prelude.{slice_get, IfOk}
 use Rattle.std.specs.List.{AllByRecursion}
-use Rattle.std.proofs.lemmas.List.{take_more, take_all}
+use Rattle.std.proofs.lemmas.List.{take_more}
 
 all_last : {A : Type 0} (P : A → Type 0) (xs : List A) (x : A) → AllByRecursion P xs → P x → AllByRecursion P (xs ++ x ∷ [])
 all_last P [] x all last = (last, tt)
@@ -13,21 +13,11 @@ pub all_more : {A : Type 0} (P : A → Type 0) (xs : List A) (i : ℕ) (x : A) �
 all_more P xs i x within is all here =
     subst (AllByRecursion P) (sym (take_more xs i x within ∙ ap (λ y. take i xs ++ y ∷ []) (sym is))) (all_last P (take i xs) x all here)
 
--- all of them
-pub all_found : {A : Type 0} (P : A → Type 0) (xs : List A) (i : ℕ) → length xs ≤ i → AllByRecursion P (take i xs) → AllByRecursion P xs
-all_found P xs i past all = subst (AllByRecursion P) (take_all i xs past) all
-
 -- at a place
 pub at_place : {A : Type 0} (P : A → Type 0) (xs : List A) (k : ℕ) (x : A) → slice_get xs k ≡ Some x → AllByRecursion P xs → P x
 at_place P [] k x e all = absurd (cc)
 at_place P (y ∷ xs) zero x e all = let same : y ≡ x = cc in subst P same all.0
 at_place P (y ∷ xs) (suc k) x e all = at_place P xs k x e all.1
-
--- not of all, since not of one
-pub not_all : {A : Type 0} (P : A → Type 0) (xs : List A) (i : ℕ) (x : A) → i < length xs → x ≡ get_or xs i x → (P x → ⊥) → AllByRecursion P xs → ⊥
-not_all P [] i x within is other all = absurd (omega arith)
-not_all P (y ∷ xs) zero x within is other all = let same : y ≡ x = cc in other (subst P same all.0)
-not_all P (y ∷ xs) (suc i) x within is other all = not_all P xs i x (omega arith) is other all.1
 
 -- a fact for each element is one for all
 pub all_from : {A : Type 0} (P : A → Type 0) (xs : List A) → ((k : ℕ) (x : A) → slice_get xs k ≡ Some x → P x) → AllByRecursion P xs
