@@ -153,6 +153,8 @@ impl Prefix {
         if calls >= 1 << 62 {
             return None;
         }
+        let longer = calls + 1;
+        let node_calls = self.node_calls + u64::from(next.step.tells_of_node());
         let mut seen = self.seen.again();
         let mut offer: Offer<Entry, u64, HistoryRule, Nothing> = seen.plain::<
             Nothing,
@@ -162,13 +164,13 @@ impl Prefix {
         let mut pen = seen.no_pen();
         let found = head
             .word
-            .compare_exchange::<Adds, Nothing>(calls, calls + 1, &mut seen, &mut offer, &mut pen);
+            .compare_exchange::<Adds, Nothing>(calls, longer, &mut seen, &mut offer, &mut pen);
         if found != calls {
             return None;
         }
         Some(Prefix {
-            calls: calls + 1,
-            node_calls: self.node_calls + u64::from(next.step.tells_of_node()),
+            calls: longer,
+            node_calls,
             seen,
         })
     }

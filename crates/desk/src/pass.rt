@@ -259,19 +259,6 @@ fn rows_again<J: Naming>(last: Option<Last>, board: &Board) -> Before
             kept: board.no_kept(),
         };
     };
-    if prefix.is_same(&board.prefix) {
-        let Some(rows) = Arc::into_inner(rows) else {
-            return Before {
-                rows: None,
-                kept: kept.forget(),
-            };
-        };
-        let (rows, kept) = write_since(rows, kept, since.as_slice());
-        return Before {
-            rows: Some(rows),
-            kept,
-        };
-    }
     if !prefix.has_same_nodes(&board.prefix) {
         return Before {
             rows: None,
@@ -284,6 +271,13 @@ fn rows_again<J: Naming>(last: Option<Last>, board: &Board) -> Before
             kept: kept.forget(),
         };
     };
+    if prefix.is_same(&board.prefix) {
+        let (rows, kept) = write_since(rows, kept, since.as_slice());
+        return Before {
+            rows: Some(rows),
+            kept,
+        };
+    }
     let kept = kept.if_less(prefix.calls_until(&board.prefix), rows.len());
     let (rows, kept) = write_used(rows, kept, board.used());
     Before {

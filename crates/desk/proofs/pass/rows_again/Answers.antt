@@ -53,15 +53,15 @@ write_used-rows-requires g c =
     let rows = (arc_value last.rows).items in
     let known : WereShown book limits last.prefix rows last.since.items × AreKept (map shown rows) last.kept.classes.items =
     subst (λ o. IfSome o (λ (l : Last). WereShown book limits l.prefix (arc_value l.rows).items l.since.items × AreKept (map shown (arc_value l.rows).items) l.kept.classes.items)) c.in-Some.is c.requires.last in
-    let taken : c.in-Some-into_inner-2.rows ≡ arc_value last.rows = c.in-Some-into_inner-2.ensures in
+    let taken : c.in-Some-into_inner.rows ≡ arc_value last.rows = c.in-Some-into_inner.ensures in
     let b = ap (λ (y : Board). y.prefix.list) c.board.view_is in
-    let stay : nodes_of c.in-Some-into_inner-2.rows.items ≡ c.args.board.now.nodes =
+    let stay : nodes_of c.in-Some-into_inner.rows.items ≡ c.args.board.now.nodes =
     ap (λ (v : Vec Row). nodes_of v.items) taken
     ∙ nodes_again book limits c.args.board.now c.requires.stands last.prefix rows last.since.items known.0
     (subst (λ l. IsPrefix last.prefix.list l) b (c.if-not-has_same_nodes.ensures.begins refl))
     (c.if-not-has_same_nodes.ensures.same refl ∙ ap calls_on_nodes b) in
     ap length c.used.ensures ∙ used_long g.J.Naming.book g.J.Naming.limits c.args.board.now c.requires.stands
-    ∙ ap length (sym stay) ∙ length-map c.in-Some-into_inner-2.rows.items (λ (r : Row). r.node)
+    ∙ ap length (sym stay) ∙ length-map c.in-Some-into_inner.rows.items (λ (r : Row). r.node)
 
 -- what is used of them is written
 pub returns-clause-rows : goal.returns-clause-rows
@@ -72,9 +72,9 @@ returns-clause-rows g c =
     let rows = (arc_value last.rows).items in
     let known : WereShown book limits last.prefix rows last.since.items × AreKept (map shown rows) last.kept.classes.items =
     subst (λ o. IfSome o (λ (l : Last). WereShown book limits l.prefix (arc_value l.rows).items l.since.items × AreKept (map shown (arc_value l.rows).items) l.kept.classes.items)) c.in-Some.is c.requires.last in
-    let taken : c.in-Some-into_inner-2.rows ≡ arc_value last.rows = c.in-Some-into_inner-2.ensures in
+    let taken : c.in-Some-into_inner.rows ≡ arc_value last.rows = c.in-Some-into_inner.ensures in
     let b = ap (λ (y : Board). y.prefix.list) c.board.view_is in
-    let stay : nodes_of c.in-Some-into_inner-2.rows.items ≡ c.args.board.now.nodes =
+    let stay : nodes_of c.in-Some-into_inner.rows.items ≡ c.args.board.now.nodes =
     ap (λ (v : Vec Row). nodes_of v.items) taken
     ∙ nodes_again book limits c.args.board.now c.requires.stands last.prefix rows last.since.items known.0
     (subst (λ l. IsPrefix last.prefix.list l) b (c.if-not-has_same_nodes.ensures.begins refl))
@@ -93,6 +93,6 @@ returns-clause-kept g c =
     let rows = (arc_value last.rows).items in
     let known : WereShown book limits last.prefix rows last.since.items × AreKept (map shown rows) last.kept.classes.items =
     subst (λ o. IfSome o (λ (l : Last). WereShown book limits l.prefix (arc_value l.rows).items l.since.items × AreKept (map shown (arc_value l.rows).items) l.kept.classes.items)) c.in-Some.is c.requires.last in
-    let taken : c.in-Some-into_inner-2.rows ≡ arc_value last.rows = c.in-Some-into_inner-2.ensures in
+    let taken : c.in-Some-into_inner.rows ≡ arc_value last.rows = c.in-Some-into_inner.ensures in
     subst (λ (nodes : List Shown). AreKept nodes c.write_used-rows.result.1.classes.items) (returns-clause-rows g c)
     (c.write_used-rows.ensures.kept (c.if_less-kept.ensures _ (subst (λ (v : Vec Row). AreKept (map shown v.items) last.kept.classes.items) (sym taken) known.1)))
