@@ -125,7 +125,7 @@ impl fmt::Display for BinFault {
             BinFault::Malformed { kind, place } => {
                 write!(f, " {} {} at {place}", kind.number(), kind.name())
             }
-            _ => Ok(()),
+            BinFault::Float | BinFault::NoMemory => Ok(()),
         }
     }
 }
