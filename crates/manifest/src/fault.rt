@@ -1,8 +1,10 @@
 //! Why a line spells no command.
 ghost use Rattle.std.specs.Prelude.{◌≡◌, Some, None, option_map};
 ghost use Rattle.manifest.specs.Fault.{number_of, name_of, field_of};
+ghost use Rattle.manifest.specs.declared.fault.LineFault.TheVariants as faults;
 
 use crate::field::Field;
+use std::alloc::AllocError;
 use std::fmt;
 use thiserror::Error;
 
@@ -57,6 +59,14 @@ impl LineFault {
                 { Some(field) }
             LineFault::NotJson | LineFault::NoMemory => None,
         }
+    }
+}
+
+impl From<AllocError> for LineFault {
+    ghost from_gives = { λ _ fault. fault ≡ faults.NoMemory };
+
+    fn from(_refused: AllocError) -> Self {
+        LineFault::NoMemory
     }
 }
 

@@ -76,10 +76,10 @@ fn fill<T: Item, const N: usize>(
     requires { length row.old + length found.now ≤ N }
     ensures { Gives (λ _. row.new) result (each (T.reading field) row.old (items_view found.now)) }
 {
-    row.reserve(found.len()).map_err(|_| LineFault::NoMemory)?;
+    row.reserve(found.len())?;
     for item in found {
         let next = T::read(item, row.as_slice(), field)?;
-        row.push(next).map_err(|_| LineFault::NoMemory)?;
+        row.push(next)?;
     }
     Ok(())
 }

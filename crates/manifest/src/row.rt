@@ -47,7 +47,7 @@ pub(crate) fn node_with(
         unschedulable: false,
     };
     fill_node(&mut node, object)?;
-    SharedNode::new(alloc, node).map_err(|_| LineFault::NoMemory)
+    Ok(SharedNode::new(alloc, node)?)
 }
 
 // Fills the rest of a node's row, by reference, so that one exit drops it.
@@ -96,7 +96,7 @@ pub(crate) fn pod_with(
         tolerations: AtMost::new(alloc),
     };
     fill_pod(&mut pod, object, asked)?;
-    SharedPod::new(alloc, pod).map_err(|_| LineFault::NoMemory)
+    Ok(SharedPod::new(alloc, pod)?)
 }
 
 // Fills the rest of a pod's row, by reference, so that one exit drops it.
