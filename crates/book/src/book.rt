@@ -109,7 +109,10 @@ impl Book {
                 queued,
             } => self.answer_forget(&uid, ticket, queued),
         };
-        taken.unwrap_or_else(Reply::Refused)
+        match taken {
+            Ok(reply) => reply,
+            Err(why) => Reply::Refused(why),
+        }
     }
 
     // Takes an event, with its answer.
@@ -122,21 +125,15 @@ impl Book {
         ensures { IsAnswered self.old (steps.Event event queued queue_full) result self.new }
     {
         match event {
-            Event::NodeSet { version, node } => self.set_node(version, node)?,
-            Event::NodeGone { version, name } => self.remove_node(version, &name)?,
             Event::PodPending { version, pod } => {
                 let pod = self.await_pod(version, pod, queued, queue_full)?;
-                return Ok(Reply::Queue(pod));
+                Ok(Reply::Queue(pod))
             }
-            Event::PodBound {
-                version,
-                uid,
-                node,
-                request,
-            } => self.bind_pod(version, uid, node, request)?,
-            Event::PodGone { version, uid } => self.remove_pod(version, &uid, queued)?,
+            event => {
+                self.take_event(event, queued, queue_full)?;
+                Ok(Reply::Done)
+            }
         }
-        Ok(Reply::Done)
     }
 
     fn answer_assume(&mut self, uid: Name, node: Name, entry: Entry) -> Result<Reply, Refusal>

@@ -6,27 +6,27 @@ ghost use Rattle.book.specs.Refusal.{number_of, name_of};
 #[derive(Clone, Copy, PartialEq, Eq)]
 pub enum Refusal {
     /// The event's version is at or below that of the last accepted event.
-    Old,
+    Old = 1,
     /// The table that the step adds to is full, or the last ticket was given.
-    Full,
+    Full = 2,
     /// The pod is in the queue, and the caller doesn't have it in flight.
-    NotInFlight,
+    NotInFlight = 3,
     /// The pod has a place.
-    Placed,
+    Placed = 4,
     /// The node isn't there.
-    NoNode,
+    NoNode = 5,
     /// The pod doesn't fit on the node now.
-    NoRoom,
+    NoRoom = 6,
     /// The place was assumed with another ticket, or isn't assumed.
-    StaleTicket,
+    StaleTicket = 7,
     /// The pod is neither in the queue nor placed.
-    Gone,
+    Gone = 8,
     /// The moment is before the clock.
-    ClockBack,
+    ClockBack = 9,
     /// The pod is in the queue or placed already.
-    Known,
+    Known = 10,
     /// The place is bound, or its bind has been reported done.
-    Confirmed,
+    Confirmed = 11,
 }
 
 impl Refusal {
@@ -34,19 +34,7 @@ impl Refusal {
     pub fn number(self) -> u8
         ensures { result ≡ number_of self }
     {
-        match self {
-            Refusal::Old => 1,
-            Refusal::Full => 2,
-            Refusal::NotInFlight => 3,
-            Refusal::Placed => 4,
-            Refusal::NoNode => 5,
-            Refusal::NoRoom => 6,
-            Refusal::StaleTicket => 7,
-            Refusal::Gone => 8,
-            Refusal::ClockBack => 9,
-            Refusal::Known => 10,
-            Refusal::Confirmed => 11,
-        }
+        self as u8
     }
 
     /// The refusal's name, as output lines tell it.
