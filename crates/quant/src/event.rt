@@ -19,7 +19,6 @@ use std::ops::Deref;
 use std::sync::Arc;
 
 /// A node's row, which many may own. Contracts see the row, and not where it lies in memory.
-#[derive(Drop)]
 pub struct SharedNode {
     row: Arc<SharedRow>,
 }
@@ -37,7 +36,6 @@ impl Model for SharedNode {
 }
 
 /// A pod's row, which many may own. Contracts see the row, and not where it lies in memory.
-#[derive(Drop)]
 pub struct SharedPod {
     row: Arc<Pod>,
 }
@@ -95,6 +93,14 @@ impl SharedNode {
     }
 }
 
+// By hand, so that who drops a row calls this, and its parts' drops are proved here alone.
+impl Drop for SharedNode {
+    fn drop(self) {
+        let Self { row } = self;
+        drop(row);
+    }
+}
+
 impl Deref for SharedNode {
     type Target = Node;
 
@@ -126,6 +132,14 @@ impl SharedPod {
     {
         let row = self.row.clone()?;
         Ok(SharedPod { row })
+    }
+}
+
+// By hand, so that who drops a row calls this, and its parts' drops are proved here alone.
+impl Drop for SharedPod {
+    fn drop(self) {
+        let Self { row } = self;
+        drop(row);
     }
 }
 
