@@ -58,7 +58,7 @@ impl Book {
     ghost use Rattle.book.specs.Cluster.{opening};
     ghost use Rattle.book.specs.Rows.{named, rows_in, IsRowOf, IsGapFor};
     ghost use Rattle.book.specs.Used.{used, assumed, bound};
-    ghost use Rattle.book.specs.Step.{IsTaken, after, reply, next_ticket, first_of, is_placed, is_there, fits_row, refusal_by_ticket, without_place};
+    ghost use Rattle.book.specs.Step.{IsTaken, is_old, after, reply, next_ticket, first_of, is_placed, is_there, fits_row, refusal_by_ticket, without_place};
     ghost use Rattle.book.specs.inside.Step.{IsAnswered};
     ghost use Rattle.book.specs.Expiry.{is_expired, IsFirstExpired, NoneExpired};
     ghost use Rattle.book.specs.declared.step.ClusterStep.TheVariants as steps;
@@ -192,21 +192,20 @@ impl Book {
         }
     }
 
-    // An event that comes too late is refused.
-    fn check_version(&self, version: Version) -> Result<(), Refusal>
-        ensures { result ≡ (if nat_le version.0 self.now.version then Err Refusal.Old else Ok tt) }
+    // Whether an event comes too late.
+    fn is_old(&self, version: Version) -> bool
+        ensures { result ≡ is_old self.now version }
     {
-        if version <= self.version {
-            return Err(Refusal::Old);
-        }
-        Ok(())
+        version <= self.version
     }
 
     /// A node has this row from now on.
     pub fn set_node(&mut self, version: Version, node: SharedNode) -> Result<(), Refusal>
         ensures { IsTaken self.old (steps.Event (event.NodeSet version node) false false) result self.new }
     {
-        self.check_version(version)?;
+        if self.is_old(version) {
+            return Err(Refusal::Old);
+        }
         let used = self.places.used(&node.name);
         self.nodes.set(node, used)?;
         self.version = version;
@@ -217,7 +216,9 @@ impl Book {
     pub fn remove_node(&mut self, version: Version, name: &Name) -> Result<(), Refusal>
         ensures { IsTaken self.old (steps.Event (event.NodeGone version name.now) false false) result self.new }
     {
-        self.check_version(version)?;
+        if self.is_old(version) {
+            return Err(Refusal::Old);
+        }
         self.nodes.remove(name)?;
         self.version = version;
         Ok(())
@@ -235,7 +236,9 @@ impl Book {
             self.new }
         ensures pod { IfOk result (λ same. same ≡ pod) }
     {
-        self.check_version(version)?;
+        if self.is_old(version) {
+            return Err(Refusal::Old);
+        }
         if queued || self.places.has(&pod.uid) {
             return Err(Refusal::Known);
         }
@@ -256,7 +259,9 @@ impl Book {
     ) -> Result<(), Refusal>
         ensures { IsTaken self.old (steps.Event (event.PodBound version uid node request) false false) result self.new }
     {
-        self.check_version(version)?;
+        if self.is_old(version) {
+            return Err(Refusal::Old);
+        }
         let place = Place {
             node,
             request,
@@ -271,7 +276,9 @@ impl Book {
     pub fn remove_pod(&mut self, version: Version, uid: &Name, queued: bool) -> Result<(), Refusal>
         ensures { IsTaken self.old (steps.Event (event.PodGone version uid.now) queued false) result self.new }
     {
-        self.check_version(version)?;
+        if self.is_old(version) {
+            return Err(Refusal::Old);
+        }
         if !self.places.remove(&mut self.nodes, uid) && !queued {
             return Err(Refusal::Gone);
         }
@@ -318,9 +325,14 @@ impl Book {
         ensures { result_err result ≡ first_of ((not (is_there self.now node.now), Refusal.NoNode) ∷
             (not (fits_row self.now node.now request (fin.get self.now.nodes node.now)), Refusal.NoRoom) ∷ []) }
     {
-        let row = self.nodes.get(node).ok_or(Refusal::NoNode)?;
+        let Some(row) = self.nodes.get(node) else {
+            return Err(Refusal::NoNode);
+        };
         let used = self.places.used(node);
-        fits(row.allocatable, used, request).map_err(|_| Refusal::NoRoom)
+        if fits(row.allocatable, used, request).is_err() {
+            return Err(Refusal::NoRoom);
+        }
+        Ok(())
     }
 
     // Whether the pod has an assumed place that this ticket names, and whose bind wasn't reported

@@ -105,10 +105,15 @@ impl Nodes {
         ensures listed { named (rows_in self.now.map) ≡ fin.entries self.now.map }
     {
         let guess = match slot {
-            Some(slot) => self.guesses.get(slot).copied().unwrap_or(0),
+            Some(slot) => self.guess_for(slot),
             None => self.last,
         };
         place_near(&self.rows, name, guess)
+    }
+
+    // Where the row of a node may be, by the slot of the node's total.
+    fn guess_for(&self, slot: usize) -> usize {
+        self.guesses.get(slot).copied().unwrap_or(0)
     }
 
     /// Puts a row, in place of one with its name. So much is used of the node.
@@ -168,7 +173,7 @@ impl Nodes {
         ensures shown { (f g : List ℕ → Res) → IsShown f self.old → used ≡ g name.now → IsAlikeBut name.now f g →
             IsShown g self.new }
     {
-        let guess = self.guesses.get(slot).copied().unwrap_or(0);
+        let guess = self.guess_for(slot);
         let Ok(at) = place_near(&self.rows, name, guess) else {
             return;
         };

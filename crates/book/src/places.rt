@@ -82,8 +82,9 @@ impl Places {
     {
         let finishes = Finishes::new(alloc, room)?;
         let overdue = Overdue::new(alloc, room)?;
-        let by_uid = NameTable::new(alloc, keys, room)?;
+        // (of the two tables the places take longer to drop)
         let totals = NameTable::new(alloc, keys, room)?;
+        let by_uid = NameTable::new(alloc, keys, room)?;
         Ok(Places {
             by_uid,
             totals,

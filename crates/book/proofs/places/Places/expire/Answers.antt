@@ -1,7 +1,14 @@
-use Rattle.std.proofs.Common.{◌∙◌, arith}
+use Rattle.std.proofs.Common.{◌∙◌, subst, arith}
 use Rattle.name_table.specs.Slots.{map_of}
-use Rattle.book.proofs.FinishLemmas.{gathered_for}
+use Rattle.book.specs.Expiry.{IsFirstExpired, NoneExpired}
+use Rattle.book.specs.declared.place.Place.{Place}
+use Rattle.book.specs.inside.Tables.{Held}
+use Rattle.book.proofs.FinishLemmas.{gathered_for, first_expired, none_expired, too_early}
 use Rattle.book.proofs.places.Places.expire.Goals as goal
+
+-- nothing expires as early
+pub returns-then-now-lt-EXPIRY-clause-none : goal.returns-then-now-lt-EXPIRY-clause-none
+returns-then-now-lt-EXPIRY-clause-none c = too_early c.args.self.now.map c.args.now (omega arith)
 
 pub invariant_of-self : goal.invariant_of-self
 invariant_of-self c = record {
@@ -10,3 +17,16 @@ invariant_of-self c = record {
   room = rw c.first.ensures.names (omega (arith, c.self.invariant.room, c.gather.ensures.room));
   gathered = gathered_for (map_of c.self.inside.by_uid) c.first.new.self.limit _ c.first.new.self.names.items c.first.new.self.given c.first.ensures.gathered (c.first.ensures.limit ∙ c.gather.ensures.limit);
 }
+
+-- none of those that were gathered has its place still
+pub returns-in_err-uid-clause-none : goal.returns-in_err-uid-clause-none
+returns-in_err-uid-clause-none c =
+    rw c.from_residual.ensures
+    (subst (λ (t : Held Place). NoneExpired t.map c.args.now) c.self.view_is
+    (none_expired (map_of c.self.inside.by_uid) c.args.now (omega arith) c.if-now-lt-EXPIRY.false c.in_err-uid.ensures.none))
+
+-- the first of those that were gathered and have it
+pub returns-clause-first : goal.returns-clause-first
+returns-clause-first c =
+    subst (λ (t : Held Place). IsFirstExpired t.map c.args.now c.in_ok-uid.uid) c.self.view_is
+    (first_expired (map_of c.self.inside.by_uid) c.args.now c.in_ok-uid.uid (omega arith) c.if-now-lt-EXPIRY.false c.in_ok-uid.ensures.finished c.in_ok-uid.ensures.least)

@@ -1,4 +1,4 @@
-use Rattle.std.proofs.Common.{◌+◌, ◌-◌, length, Some, refl, ap, sym, subst, ◌∙◌, arith}
+use Rattle.std.proofs.Common.{◌≡◌, ◌+◌, ◌-◌, true, false, length, Some, is_some, refl, ap, sym, subst, ◌∙◌, arith}
 use Rattle.std.specs.FinMap as fin
 use Rattle.std.proofs.lemmas.Bool.{leb-false}
 use Rattle.std.proofs.lemmas.List.{length-map}
@@ -6,9 +6,12 @@ use Rattle.name_table.specs.Slots.{map_of}
 use Rattle.book.specs.declared.place.Place.{Place}
 use Rattle.book.specs.inside.Finishes.{finish_in}
 use Rattle.book.specs.inside.Tables.{Held, IsShown}
+use Rattle.book.specs.Tables.{is_full_for}
 use Rattle.book.specs.Used.{used}
 use Rattle.book.proofs.FinishLemmas.{slot_timed, timed_put, timed_set}
+use Rattle.book.proofs.RowLemmas.{no_gap, in_gap}
 use Rattle.book.proofs.SumLemmas.{get_removed, insert_over}
+use Rattle.book.proofs.TableLemmas.{held}
 use Rattle.book.proofs.TotalLemmas.{counted_more, counted_less, old_within, old_alone, most_used, assumed_le, assumed_less, assumed_one, each_less, each_more, len_less, alike_less, alike_more, used_apart, used_more}
 use Rattle.book.proofs.places.Places.put.Goals as goal
 
@@ -43,6 +46,20 @@ add-slot_now-requires-clause-within c =
 pub overflow_add-self : goal.overflow_add-self
 overflow_add-self c = omega (arith, assumed_le (map_of c.self.inside.by_uid), c.self.invariant.counted.assumed, c.self.invariant.counted.few, c.self.invariant.counted.small, assumed_one c.args.place.status, c.assumed_count-in-Some.ensures)
 
+-- one place less is counted, so that there is room for one more
+pub take-slot_before-requires-clause-in_use : goal.take-slot_before-requires-clause-in_use
+take-slot_before-requires-clause-in_use c = c.self.invariant.counted.in_use
+
+pub add-slot_now-requires-clause-room : goal.add-slot_now-requires-clause-room
+add-slot_now-requires-clause-room c =
+    omega (arith, c.take-slot_before.ensures.pods, c.take-slot_before.ensures.room, c.self.invariant.counted.pods, c.self.invariant.counted.few, c.self.invariant.counted.same)
+
+pub add-slot_now-requires-clause-small : goal.add-slot_now-requires-clause-small
+add-slot_now-requires-clause-small c = omega (arith, c.take-slot_before.ensures.room, c.self.invariant.counted.same, c.self.invariant.counted.small)
+
+pub add-slot_now-requires-clause-in_use : goal.add-slot_now-requires-clause-in_use
+add-slot_now-requires-clause-in_use c = c.take-slot_before.ensures.in_use
+
 -- the pod had a place
 pub invariant_of-self : goal.invariant_of-self
 invariant_of-self c =
@@ -67,6 +84,23 @@ invariant_of-self c =
 pub add-slot_now-requires-in-None-clause-within : goal.add-slot_now-requires-in-None-clause-within
 add-slot_now-requires-in-None-clause-within c =
     most_used (map_of c.self.inside.by_uid) _ c.args.place.node (c.self.invariant.counted.each c.args.place.node) (omega (arith, c.self.invariant.counted.few, c.self.invariant.counted.small))
+
+pub add-slot_now-requires-in-None-clause-room : goal.add-slot_now-requires-in-None-clause-room
+add-slot_now-requires-in-None-clause-room c =
+    let room = leb-false (length c.self.inside.by_uid) (fin.len (map_of c.self.inside.by_uid)) (sym c.is_full.ensures.full ∙ c.if-is_full.false) in
+    omega (arith, room, c.self.invariant.counted.pods, c.self.invariant.counted.same)
+
+pub add-slot_now-requires-in-None-clause-small : goal.add-slot_now-requires-in-None-clause-small
+add-slot_now-requires-in-None-clause-small c = omega (arith, c.self.invariant.counted.same, c.self.invariant.counted.small)
+
+pub add-slot_now-requires-in-None-clause-in_use : goal.add-slot_now-requires-in-None-clause-in_use
+add-slot_now-requires-in-None-clause-in_use c = c.self.invariant.counted.in_use
+
+pub insert-slot-requires-clause-new : goal.insert-slot-requires-clause-new
+insert-slot-requires-clause-new c = c.in-None.ensures.value
+
+pub insert-slot-requires-clause-room : goal.insert-slot-requires-clause-room
+insert-slot-requires-clause-room c = leb-false (length c.self.inside.by_uid) (fin.len (map_of c.self.inside.by_uid)) (sym c.is_full.ensures.full ∙ c.if-is_full.false)
 
 pub overflow_add-self-in-None : goal.overflow_add-self-in-None
 overflow_add-self-in-None c = omega (arith, assumed_le (map_of c.self.inside.by_uid), c.self.invariant.counted.assumed, c.self.invariant.counted.few, c.self.invariant.counted.small, assumed_one c.args.place.status, c.assumed_count-in-None.ensures)
@@ -118,3 +152,40 @@ returns-else-is_full-clause-shown c shown =
     let after = c.keep-in-None.ensures.shown (used m) (used (fin.insert m c.args.uid place)) before (c.add-slot_now-in-None.ensures.now ∙ each_now place.node)
     (alike_more (used m) (used (fin.insert m c.args.uid place)) place.node place.request (used_more m c.args.uid place none)) in
     subst (λ n. IsShown (used n) c.keep-in-None.new.self) (sym c.insert-slot.ensures.map) after
+
+-- there is no room for the pod, and nothing changes
+pub returns-then-is_full : goal.returns-then-is_full
+returns-then-is_full c = record {
+  nodes = (refl, refl);
+  shown = λ shown. shown;
+  put = tt;
+  room = tt;
+  full = subst (λ (t : Held Place). is_full_for t.map t.room c.args.uid ≡ true) c.self.view_is (in_gap _ _ true (ap is_some c.in-None.ensures.value) (sym c.is_full.ensures.full ∙ c.if-is_full.true));
+  why = refl;
+  unchanged = refl;
+}
+
+-- the place is put, and the rows stay
+pub returns-in-Some-clause-nodes : goal.returns-in-Some-clause-nodes
+returns-in-Some-clause-nodes c = (c.keep-in-Some.ensures.map ∙ c.keep.ensures.map, c.keep-in-Some.ensures.room ∙ c.keep.ensures.room)
+
+pub returns-in-Some-clause-put : goal.returns-in-Some-clause-put
+returns-in-Some-clause-put c =
+    (λ i. held (c.replace_at.ensures.map c.args.uid c.in-Some.ensures.name i) (c.replace_at.ensures.room i))
+    ∙ ap {A = Held Place} {B = Held Place} (λ t. record t { map = fin.insert t.map c.args.uid c.args.place }) c.self.view_is
+
+pub returns-in-Some-clause-room : goal.returns-in-Some-clause-room
+returns-in-Some-clause-room c =
+    subst (λ (t : Held Place). is_full_for t.map t.room c.args.uid ≡ false) c.self.view_is (no_gap _ _ (ap is_some (c.value_at-old.ensures.by_name c.args.uid c.in-Some.ensures.name)))
+
+pub returns-else-is_full-clause-nodes : goal.returns-else-is_full-clause-nodes
+returns-else-is_full-clause-nodes c = (c.keep-in-None.ensures.map, c.keep-in-None.ensures.room)
+
+pub returns-else-is_full-clause-put : goal.returns-else-is_full-clause-put
+returns-else-is_full-clause-put c =
+    (λ i. held (c.insert-slot.ensures.map i) (c.insert-slot.ensures.room i))
+    ∙ ap {A = Held Place} {B = Held Place} (λ t. record t { map = fin.insert t.map c.args.uid c.args.place }) c.self.view_is
+
+pub returns-else-is_full-clause-room : goal.returns-else-is_full-clause-room
+returns-else-is_full-clause-room c =
+    subst (λ (t : Held Place). is_full_for t.map t.room c.args.uid ≡ false) c.self.view_is (in_gap _ _ false (ap is_some c.in-None.ensures.value) (sym c.is_full.ensures.full ∙ c.if-is_full.false))
