@@ -120,3 +120,12 @@ blocks_later each earliest first limit at x e f start lt is later i on to h =
     let same : i / 64 / 64 ≡ at / 64 / 64 = omega arith in
     let kept : get_or first (i / 64 / 64) 0 ≡ get_or first (at / 64 / 64) 0 = ap (λ k. get_or first k 0) same in
     omega (arith, here, low, lower, kept)
+
+-- ---- a moment that is set
+
+-- what it was before, put back
+pub restored : (l new : List ℕ) (i x y : ℕ) → new ≡ set l i y → x ≡ get_or l i x → set new i x ≡ l
+restored l new i x y put was = ap (λ n. set n i x) put ∙ set-set l i y x ∙ ap (set l i) was ∙ set-get_or l i x
+
+pub put_back : (old new now : List ℕ) (i x : ℕ) → now ≡ new → set new i (get_or old i 0) ≡ old → i < length old → x ≡ get_or old i x → set now i x ≡ old
+put_back old new now i x is but lt was = ap (λ n. set n i x) is ∙ ap (set new i) (get_or_read old i x lt was 0) ∙ but
