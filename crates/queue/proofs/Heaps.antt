@@ -1,5 +1,5 @@
 -- What each step of a heap of slots keeps.
-use Rattle.std.proofs.Common.{◌≡◌, ℕ, zero, suc, ◌+◌, ◌-◌, ◌*◌, ◌/◌, ◌<◌, ◌≤◌, Bool, true, false, ⊎_elim, List, [], ◌∷◌, length, arith, refl, sym, ap, ◌∙◌}
+use Rattle.std.proofs.Common.{◌≡◌, ℕ, zero, suc, ◌+◌, ◌-◌, ◌*◌, ◌/◌, ◌<◌, ◌≤◌, Bool, true, false, ⊎_elim, List, [], ◌∷◌, length, arith, refl, sym, ap, subst, ◌∙◌}
 use Rattle.std.specs.Prelude.{◌≢◌, IsSome}
 use Rattle.name_table.specs.declared.entry.Entry.{Entry as Named}
 use Rattle.name_table.specs.Slots.{entry_in}
@@ -9,11 +9,11 @@ use Rattle.std.specs.Cmp.Lexicographic.{options_total}
 use Rattle.std.proofs.lemmas.Cmp.{on_total, then_total, nat_cmp_total}
 use Rattle.std.proofs.lemmas.List.MinMax.{ranks_by}
 use Rattle.queue.specs.Order.{Item}
-use Rattle.queue.specs.inside.Row.{at, IsSwapped, IsPushed}
-use Rattle.queue.specs.inside.Heap.{Pods, wait_cmp, item_in, goes_before, IsHeap, GoesFirst, IsHeapBut}
+use Rattle.queue.specs.inside.Row.{at, IsSwapped, IsPushed, HasSame}
+use Rattle.queue.specs.inside.Heap.{Pods, wait_cmp, item_in, goes_before, AllThere, IsHeap, GoesFirst, IsHeapBut}
 use Rattle.queued.specs.Change.{moment_of}
 use Rattle.queue.proofs.Ranks.{item_laws}
-use Rattle.queue.proofs.Rows.{same_or_not}
+use Rattle.queue.proofs.Rows.{same_or_not, with_pushed}
 
 -- what a slot has
 abbrev pub Kept : Type 0
@@ -143,3 +143,14 @@ replaced pods xs ys zs j last s end inside heap swapped popped =
       others = λ p k a b f u v. by pods _ _ _ _ (keeps k (omega (arith, popped.len, swapped.len)) v) (keeps p (omega (arith, popped.len, swapped.len)) u) (heap p k a b (omega (arith, popped.len, swapped.len)));
       across = λ p k a b f g i. by pods _ _ _ _ (keeps k (omega (arith, popped.len, swapped.len)) (omega arith)) (keeps p (omega arith) (omega arith)) (chained pods _ _ _ (heap j k f g (omega (arith, popped.len, swapped.len))) (heap p j a b (omega arith)));
     }
+
+-- each slot has an entry where one comes that has one
+pub all_pushed : (pods : Pods) (xs ys : List ℕ) (s : ℕ) → IsPushed xs ys s → AllThere pods xs → IsSome (entry_in pods s) → AllThere pods ys
+all_pushed pods xs ys s w there filled t is =
+    ⊎_elim (λ (same : t ≡ s). subst (λ n. IsSome (entry_in pods n)) (sym same) filled) (λ (other : t ≢ s). there t ((with_pushed xs ys s w).back t is other))
+    (same_or_not t s)
+
+-- and where the last one goes
+pub all_popped : (pods : Pods) (xs ys zs : List ℕ) (s : ℕ) → HasSame xs ys → IsPushed zs ys s → AllThere pods xs → AllThere pods zs
+all_popped pods xs ys zs s h w there t is =
+    there t (h.back t record { place = is.place; within = omega (arith, w.len, is.within); is = w.others is.place is.within ∙ is.is })

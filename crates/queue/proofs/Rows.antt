@@ -1,11 +1,12 @@
 -- What becomes of a row of slots.
-use Rattle.std.proofs.Common.{◌≡◌, ℕ, ◌+◌, ◌<◌, ◌≤◌, ◌⊎◌, inl, inr, ⊎_elim, List, ◌++◌, length, take, drop, arith, sym, ap, ◌∙◌, subst}
+use Rattle.std.proofs.Common.{◌≡◌, ℕ, ◌+◌, ◌<◌, ◌≤◌, ◌⊎◌, inl, inr, ⊎_elim, List, [], ◌∷◌, ◌++◌, length, take, drop, set, arith, sym, ap, ◌∙◌, subst}
 use Rattle.std.specs.Prelude.{◌≢◌, Vec}
 use Rattle.std.specs.Global.{Global}
 use Rattle.std.specs.Vec.{with_items}
 use Rattle.std.proofs.lemmas.Bool.{cases_lt}
-use Rattle.std.proofs.lemmas.List.{length-take, length-take-le, get_or_past, get_or-take, with_items_is}
-use Rattle.std.proofs.Math.Seq.{take-append_seam}
+use Rattle.std.proofs.lemmas.List.{length-take, length-take-le, length-set, get_or_past, get_or-take, get_or-set_same, get_or-set_other, with_items_is}
+use Rattle.std.proofs.Math.ListN.{get_or-append}
+use Rattle.std.proofs.Math.Seq.{take-append_seam, get_or-append_seam}
 use Rattle.quant.specs.declared.limits.TheConstants.{MAX_QUEUED}
 use Rattle.queue.specs.inside.Row.{at, IsIn, IsSwapped, IsPushed, HasSame, IsWithout, IsWith, IsInverse, IsRow}
 
@@ -128,3 +129,90 @@ with_pushed xs ys s w = record {
       absurd (other (sym is.is ∙ ap (at ys) end ∙ w.last)))
       (cases_lt is.place (length xs));
 }
+
+-- and a row with one slot more has it besides, however the slots stand there
+pub with_same : (xs ys zs : List ℕ) (s : ℕ) → IsWith xs ys s → HasSame ys zs → IsWith xs zs s
+with_same xs ys zs s w h = record { stays = λ t is. h.there t (w.stays t is); there = h.there s w.there; back = λ t is other. w.back t (h.back t is) other }
+
+-- the numbers so far, with one more behind them
+pub numbered : (xs ys : List ℕ) (n x : ℕ) → length xs ≡ n → ((k : ℕ) → k < n → at xs k ≡ k) → ys ≡ xs ++ x ∷ [] → x ≡ n → (k : ℕ) → k < n + 1 → at ys k ≡ k
+numbered xs ys n x len each put is k lt =
+    ap (λ l. at l k) put
+    ∙ ⊎_elim
+    (λ (low : k < n). get_or-append xs (x ∷ []) 0 k (omega arith) ∙ each k low)
+    (λ (high : n ≤ k). let end : k ≡ length xs = omega arith in ap (at (xs ++ x ∷ [])) end ∙ get_or-append_seam xs x [] 0 ∙ is ∙ sym len ∙ sym end)
+    (cases_lt k n)
+
+-- ---- two slots change places, in a row of all of them
+
+by_cases : {P : Type 0} (k a b : ℕ) → (k ≡ a → P) → (k ≡ b → P) → (k ≢ a → k ≢ b → P) → P
+by_cases k a b f g h = ⊎_elim f (λ (u : k ≢ a). ⊎_elim g (λ (n : k ≢ b). h u n) (same_or_not k b)) (same_or_not k a)
+
+-- those at two places have changed places where each was written over the other
+pub exchanged : (xs : List ℕ) (i j : ℕ) → i < length xs → j < length xs → IsSwapped xs (set (set xs i (at xs j)) j (at xs i)) i j
+exchanged xs i j first second =
+    let mid = set xs i (at xs j) in
+    let long : length mid ≡ length xs = length-set xs i (at xs j) in
+    let last : at (set mid j (at xs i)) j ≡ at xs i = get_or-set_same mid j (at xs i) 0 (omega arith) in
+    record {
+      len = length-set mid j (at xs i) ∙ long;
+      first = ⊎_elim
+          (λ (same : i ≡ j). ap (at (set mid j (at xs i))) same ∙ last ∙ ap (at xs) same)
+          (λ (other : i ≢ j). get_or-set_other mid j i (at xs i) 0 other ∙ get_or-set_same xs i (at xs j) 0 first)
+          (same_or_not i j);
+      second = last;
+      others = λ k u n. get_or-set_other mid j k (at xs i) 0 n ∙ get_or-set_other xs i k (at xs j) 0 u;
+    }
+
+module _ (slots places : List ℕ) (i j : ℕ) (was : IsInverse slots places) (first : i < length slots) (second : j < length slots) where
+  -- their places, once they have changed
+  abbrev changed : List ℕ
+  changed = set (set places (at slots i) j) (at slots j) i
+
+  place_of_second : at changed (at slots j) ≡ i
+  place_of_second = get_or-set_same (set places (at slots i) j) (at slots j) i 0 (omega (arith, length-set places (at slots i) j, was.as_many, was.slot_at j second))
+
+  place_of_first : at changed (at slots i) ≡ j
+  place_of_first = ⊎_elim
+      (λ (same : at slots i ≡ at slots j).
+      let one : i ≡ j = sym (was.knows i first) ∙ ap (at places) same ∙ was.knows j second in
+      ap (at changed) same ∙ place_of_second ∙ one)
+      (λ (other : at slots i ≢ at slots j).
+      get_or-set_other (set places (at slots i) j) (at slots j) (at slots i) i 0 other ∙ get_or-set_same places (at slots i) j 0 (omega (arith, was.as_many, was.slot_at i first)))
+      (same_or_not (at slots i) (at slots j))
+
+  place_of_other : (s : ℕ) → s ≢ at slots i → s ≢ at slots j → at changed s ≡ at places s
+  place_of_other s u n = get_or-set_other (set places (at slots i) j) (at slots j) s i 0 n ∙ get_or-set_other places (at slots i) s j 0 u
+
+  -- so each slot's place is known as before
+  pub inverse_exchanged : IsInverse (set (set slots i (at slots j)) j (at slots i)) changed
+  inverse_exchanged =
+      let now = set (set slots i (at slots j)) j (at slots i) in
+      let w = exchanged slots i j first second in
+      record {
+        as_many = length-set (set places (at slots i) j) (at slots j) i ∙ length-set places (at slots i) j ∙ was.as_many ∙ sym w.len;
+        slot_at = λ k lt. by_cases k i j
+            (λ e. subst (λ n. n < length now) (sym (ap (at now) e ∙ w.first)) (omega (arith, w.len, was.slot_at j second)))
+            (λ e. subst (λ n. n < length now) (sym (ap (at now) e ∙ w.second)) (omega (arith, w.len, was.slot_at i first)))
+            (λ u n. subst (λ n. n < length now) (sym (w.others k u n)) (omega (arith, w.len, was.slot_at k (omega (arith, w.len)))));
+        knows = λ k lt. by_cases k i j
+            (λ e. ap (at changed) (ap (at now) e ∙ w.first) ∙ place_of_second ∙ sym e)
+            (λ e. ap (at changed) (ap (at now) e ∙ w.second) ∙ place_of_first ∙ sym e)
+            (λ u n.
+            let lt' : k < length slots = omega (arith, w.len) in
+            ap (at changed) (w.others k u n)
+            ∙ place_of_other (at slots k) (λ same. u (sym (was.knows k lt') ∙ ap (at places) same ∙ was.knows i first)) (λ same. n (sym (was.knows k lt') ∙ ap (at places) same ∙ was.knows j second))
+            ∙ was.knows k lt');
+        place_at = λ s lt. by_cases s (at slots i) (at slots j)
+            (λ e. subst (λ n. n < length now) (sym (ap (at changed) e ∙ place_of_first)) (omega (arith, w.len)))
+            (λ e. subst (λ n. n < length now) (sym (ap (at changed) e ∙ place_of_second)) (omega (arith, w.len)))
+            (λ u n. subst (λ n. n < length now) (sym (place_of_other s u n)) (omega (arith, w.len, was.place_at s (omega (arith, w.len)))));
+        stands = λ s lt. by_cases s (at slots i) (at slots j)
+            (λ e. ap (at now) (ap (at changed) e ∙ place_of_first) ∙ w.second ∙ sym e)
+            (λ e. ap (at now) (ap (at changed) e ∙ place_of_second) ∙ w.first ∙ sym e)
+            (λ u n.
+            let lt' : s < length slots = omega (arith, w.len) in
+            ap (at now) (place_of_other s u n)
+            ∙ w.others (at places s) (λ same. u (sym (was.stands s lt') ∙ ap (at slots) same)) (λ same. n (sym (was.stands s lt') ∙ ap (at slots) same))
+            ∙ was.stands s lt');
+      }

@@ -238,6 +238,29 @@ kept_without pods new old_index index s old n kept there is once room but few =
       few = few;
     }
 
+-- and where a pod came into a free slot
+pub kept_added : (pods new : Pods) (old_index index : Index) (s old n : ℕ) (e : Kept) → IsKept pods old_index old → s < length pods → new ≡ set pods s (Some e) → e.value.pod.uid ≡ e.name → NamesOnce new → length new ≡ length pods → IsIndex new index → n ≤ 28 → IsKept new index n
+kept_added pods new old_index index s old n e kept lt is own once room i few =
+    let here : entry_in (set pods s (Some e)) s ≡ Some e = get_or-set_same pods s (Some e) None lt in
+    record {
+      index = i;
+      once = once;
+      own_uid = subst (λ (p : Pods). OwnUids p) (sym is) (λ t x at_t. ⊎_elim
+          (λ (same : t ≡ s).
+          let both : Some e ≡ Some x = sym (ap (entry_in (set pods s (Some e))) same ∙ here) ∙ at_t in
+          let one : e ≡ x = cc in
+          subst (λ (k : Kept). k.value.pod.uid ≡ k.name) one own)
+          (λ (other : t ≢ s). kept.own_uid t x (sym (get_or-set_other pods s t (Some e) None other) ∙ at_t))
+          (same_or_not t s));
+      limited = omega (arith, room, kept.limited);
+      few = few;
+    }
+
+-- nothing is found where there is no entry
+pub none_found : {X : Type 0} (o : Option X) → is_some o ≡ false → o ≡ None
+none_found None e = refl
+none_found (Some x) e = absurd (cc)
+
 -- a pod comes into a free slot
 pub add_some : (pods new : Pods) (pod : Pod) (now : Moment) (name : Name) (value : Entry) → has_entry (state_of pods) pod.uid ≡ false → is_full_queue (state_of pods) ≡ false → name ≡ pod.uid → value ≡ new_entry pod now → length new ≡ length pods → map_of new ≡ table.insert (map_of pods) name value → state_of new ≡ after_add (state_of pods) pod now
 unfolding after_add

@@ -1,9 +1,33 @@
 use Rattle.std.proofs.Common.{◌≡◌, ℕ, ◌+◌, ◌-◌, ◌≤◌, List, length, arith, sym, ap, ◌∙◌, subst}
 use Rattle.queue.specs.inside.Row.{at, IsSwapped, IsPushed, IsWithout}
 use Rattle.queue.proofs.Rows.{same_again, same_swapped, without}
-use Rattle.queue.proofs.Heaps.{replaced}
+use Rattle.queue.proofs.Heaps.{replaced, all_popped}
 use Rattle.queue.proofs.Powers.{at_most_13, power_alone}
 use Rattle.queue.proofs.heap.remove.Goals as goal
+
+pub place_of-place-requires : goal.place_of-place-requires
+place_of-place-requires c = c.requires.here
+
+pub swap-requires-clause-first : goal.swap-requires-clause-first
+swap-requires-clause-first c = c.place_of-place.ensures.within
+
+pub swap-requires-clause-second : goal.swap-requires-clause-second
+swap-requires-clause-second c = omega (arith, c.len-last.ensures.len, c.place_of-place.ensures.within)
+
+pub pop-requires : goal.pop-requires
+pop-requires c = omega (arith, c.swap.ensures.swapped.len, c.place_of-place.ensures.within)
+
+pub fall-leaf-requires-clause-inside : goal.fall-leaf-requires-clause-inside
+fall-leaf-requires-clause-inside c = omega (arith, c.if-place-last.true, c.swap.ensures.swapped.len, c.pop.ensures.popped.len, c.len-last.ensures.len)
+
+pub fall-leaf-requires-clause-short : goal.fall-leaf-requires-clause-short
+fall-leaf-requires-clause-short c = omega (arith, c.swap.ensures.swapped.len, c.pop.ensures.popped.len, c.len-last.ensures.len, c.len-last.ensures.few)
+
+pub fall-leaf-requires-clause-there : goal.fall-leaf-requires-clause-there
+fall-leaf-requires-clause-there c =
+    let xs = c.args.row.now.slots in let ys = c.swap.new.self.slots in
+    all_popped c.args.pods.now xs ys c.pop.new.self.slots c.pop.result
+    (same_swapped xs ys c.place_of-place.result (c.len-last.result - 1) c.swap.ensures.swapped c.place_of-place.ensures.within (omega (arith, c.len-last.ensures.len, c.place_of-place.ensures.within))) c.pop.ensures.popped c.requires.there
 
 pub fall-leaf-requires-clause-hole : goal.fall-leaf-requires-clause-hole
 fall-leaf-requires-clause-hole c =
@@ -14,6 +38,15 @@ popped_slot : (xs ys zs : List ℕ) (place last r s : ℕ) → IsSwapped xs ys p
 popped_slot xs ys zs place last r s swapped popped end is =
     let last_place : length zs ≡ last = omega (arith, popped.len, swapped.len) in
     sym popped.last ∙ ap (at ys) last_place ∙ swapped.second ∙ is
+
+pub rise-requires-clause-inside : goal.rise-requires-clause-inside
+rise-requires-clause-inside c = c.fall-leaf.ensures.inside
+
+pub rise-requires-clause-hole : goal.rise-requires-clause-hole
+rise-requires-clause-hole c = c.fall-leaf.ensures.hole
+
+pub rise-requires-clause-first : goal.rise-requires-clause-first
+rise-requires-clause-first c k low high lt = absurd (omega (arith, c.fall-leaf.ensures.last))
 
 pub rise-requires-clause-there : goal.rise-requires-clause-there
 rise-requires-clause-there c = λ s is.
@@ -30,6 +63,12 @@ rise-requires-clause-few c =
           (power_alone (c.fall-leaf.new.count - c.args.count.now) c.place_of-place.result (c.fall-leaf.result + 1) c.fall-leaf.ensures.counted)
           (omega (arith, c.fall-leaf.ensures.inside, c.fall-leaf.ensures.same.len, c.pop.ensures.popped.len, c.swap.ensures.swapped.len, c.len-last.ensures.few)),
     )
+
+pub returns-then-place-last-clause-heap : goal.returns-then-place-last-clause-heap
+returns-then-place-last-clause-heap c = c.rise.ensures.heap
+
+pub returns-then-place-last-clause-room : goal.returns-then-place-last-clause-room
+returns-then-place-last-clause-room c = c.rise.ensures.room ∙ c.fall-leaf.ensures.room ∙ c.pop.ensures.room ∙ c.swap.ensures.room
 
 pub returns-then-place-last-clause-without : goal.returns-then-place-last-clause-without
 returns-then-place-last-clause-without c =

@@ -14,8 +14,26 @@ only_entered left entered none more = omega arith
 only_left : (left entered : ℕ) → entered ≡ left → left ≤ 0 + 26 → entered ≤ 26
 only_left left entered none more = omega arith
 
+pub value_at-requires : goal.value_at-requires
+value_at-requires c = c.requires.there
+
+pub leave-requires-clause-index : goal.leave-requires-clause-index
+leave-requires-clause-index c = c.requires.index
+
+pub leave-requires-clause-few : goal.leave-requires-clause-few
+leave-requires-clause-few c = omega arith
+
 pub leave-requires-clause-state : goal.leave-requires-clause-state
 leave-requires-clause-state c = state_of _ _ c.value_at.ensures.value ∙ ap Some (sym c.state-before.ensures)
+
+pub value_at_mut-value-requires : goal.value_at_mut-value-requires
+value_at_mut-value-requires c = c.requires.there
+
+pub apply-requires : goal.apply-requires
+apply-requires c = c.requires.timely
+
+pub enter-requires-clause-few : goal.enter-requires-clause-few
+enter-requires-clause-few c = omega (arith, c.leave.ensures.counted)
 
 pub enter-requires-clause-index : goal.enter-requires-clause-index
 enter-requires-clause-index c =
@@ -23,6 +41,9 @@ enter-requires-clause-index c =
 
 pub enter-requires-clause-state : goal.enter-requires-clause-state
 enter-requires-clause-state c = state_of _ _ c.value_at-2.ensures.value ∙ ap Some (sym c.state-after.ensures)
+
+pub returns-clause-index : goal.returns-clause-index
+returns-clause-index c = c.enter.ensures.index
 
 pub returns-clause-after : goal.returns-clause-after
 returns-clause-after c =
