@@ -11,8 +11,7 @@ ghost use Rattle.objects.specs.Translation.{is_one_line};
 ghost use Rattle.objects.specs.inside.Added.{Adds};
 
 use crate::line_field::{
-    put_amounts, put_flag, put_labels, put_number, put_priority, put_request, put_taints, put_text,
-    put_tolerations,
+    put_amounts, put_flag, put_items, put_number, put_priority, put_request, put_text,
 };
 use json::Writer;
 use quant::{Event, Name, Node, Pod, Request, Version};
@@ -50,14 +49,22 @@ fn write_event(alloc: Global, writer: &mut Writer, event: &Event) -> Result<(), 
     }
 }
 
-// Begins a line: its operation and its version.
-fn put_head(writer: &mut Writer, op: &str, version: Version) -> Result<(), AllocError>
+// Begins a line: its operation, its version, and the name of what it tells of.
+fn put_head(
+    writer: &mut Writer,
+    op: &str,
+    version: Version,
+    field: &str,
+    name: &Name,
+) -> Result<(), AllocError>
     ensures { Adds result writer.old writer.new
-        (begin_object ∷ key (codes "op") ∷ string op.now ∷ key (codes "v") ∷ number (decimal version.0) ∷ []) }
+        (begin_object ∷ key (codes "op") ∷ string op.now ∷ key (codes "v") ∷ number (decimal version.0)
+        ∷ key field.now ∷ string name.now ∷ []) }
 {
     writer.begin_object()?;
     put_text(writer, "op", op)?;
-    put_number(writer, "v", version.0)
+    put_number(writer, "v", version.0)?;
+    put_text(writer, field, name.as_str())
 }
 
 // Writes a node's row.
@@ -69,12 +76,11 @@ fn write_node(
 ) -> Result<(), AllocError>
     ensures { Adds result writer.old writer.new (json_tokens (line_json (NodeSet version node.now))) }
 {
-    put_head(writer, "node", version)?;
-    put_text(writer, "name", node.name.as_str())?;
+    put_head(writer, "node", version, "name", &node.name)?;
     put_amounts(alloc, writer, node.allocatable.cpu, node.allocatable.mem)?;
     put_number(writer, "pods", node.allocatable.pods as u64)?;
-    put_labels(writer, node.labels.as_slice())?;
-    put_taints(writer, node.taints.as_slice())?;
+    put_items(writer, "labels", node.labels.as_slice())?;
+    put_items(writer, "taints", node.taints.as_slice())?;
     put_flag(writer, "unschedulable", node.unschedulable)?;
     writer.end_object()
 }
@@ -88,12 +94,11 @@ fn write_pod(
 ) -> Result<(), AllocError>
     ensures { Adds result writer.old writer.new (json_tokens (line_json (PodPending version pod.now))) }
 {
-    put_head(writer, "pod", version)?;
-    put_text(writer, "uid", pod.uid.as_str())?;
+    put_head(writer, "pod", version, "uid", &pod.uid)?;
     put_priority(writer, pod)?;
     put_request(alloc, writer, &pod.request)?;
-    put_labels(writer, pod.labels.as_slice())?;
-    put_tolerations(writer, pod.tolerations.as_slice())?;
+    put_items(writer, "labels", pod.labels.as_slice())?;
+    put_items(writer, "tolerations", pod.tolerations.as_slice())?;
     writer.end_object()
 }
 
@@ -109,8 +114,7 @@ fn write_bound(
     ensures { Adds result writer.old writer.new
         (json_tokens (line_json (PodBound version uid.now node.now request.now))) }
 {
-    put_head(writer, "bound", version)?;
-    put_text(writer, "uid", uid.as_str())?;
+    put_head(writer, "bound", version, "uid", uid)?;
     put_text(writer, "node", node.as_str())?;
     put_amounts(alloc, writer, request.cpu, request.mem)?;
     writer.end_object()
@@ -128,7 +132,6 @@ fn write_named(
         (begin_object ∷ key (codes "op") ∷ string op.now ∷ key (codes "v") ∷ number (decimal version.0)
         ∷ key field.now ∷ string name.now ∷ end_object ∷ []) }
 {
-    put_head(writer, op, version)?;
-    put_text(writer, field, name.as_str())?;
+    put_head(writer, op, version, field, name)?;
     writer.end_object()
 }

@@ -1,11 +1,13 @@
 //! The fields of a line.
 ghost use Rattle.std.specs.Prelude.{◌≡◌, [], ◌∷◌, codes, decimal};
 ghost use Rattle.std.specs.Fmt.{signed_decimal};
+ghost use Rattle.json.specs.Json.{Json, array};
 ghost use Rattle.json.specs.Token.{key, string, number, boolean, begin_array, end_array};
 ghost use Rattle.json.specs.Tree.{json_tokens, items_tokens};
 ghost use Rattle.objects.specs.inside.Line.{cpu_text, memory_text, effect_text, optional_effect_text, operator_text, label_json, taint_json, toleration_json, request_json, items_json};
 ghost use Rattle.objects.specs.inside.Added.{Adds};
 
+use itoa::Buffer;
 use json::Writer;
 use quant::{Bytes, Cpu, Effect, Label, Operator, Pod, Request, Taint, Toleration};
 use std::alloc::{AllocError, Global};
@@ -53,10 +55,18 @@ pub(crate) fn put_amounts(
     ensures { Adds result writer.old writer.new
         (key (codes "cpu") ∷ string (cpu_text cpu) ∷ key (codes "mem") ∷ string (memory_text mem) ∷ []) }
 {
-    writer.key("cpu")?;
     put_cpu(alloc, writer, cpu)?;
     writer.key("mem")?;
-    put_memory(writer, mem)
+    writer.quoted_u64(mem.0)
+}
+
+// Thousandths of a core, as the API spells them.
+fn put_cpu(alloc: Global, writer: &mut Writer, cpu: Cpu) -> Result<(), AllocError>
+    ensures { Adds result writer.old writer.new (key (codes "cpu") ∷ string (cpu_text cpu) ∷ []) }
+{
+    let thousandths = cpu.0;
+    let text = format!(in alloc; "{thousandths}m")?;
+    put_text(writer, "cpu", text.as_str())
 }
 
 // What a pod asks for, as the one container that asks for all of it.
@@ -70,128 +80,100 @@ pub(crate) fn put_request(
 {
     writer.key("containers")?;
     writer.begin_array()?;
-    writer.begin_array()?;
-    put_cpu(alloc, writer, request.cpu)?;
-    put_memory(writer, request.mem)?;
-    writer.end_array()?;
+    put_container(alloc, writer, request)?;
     writer.end_array()
 }
 
-// Thousandths of a core, as the API spells them.
-fn put_cpu(alloc: Global, writer: &mut Writer, cpu: Cpu) -> Result<(), AllocError>
-    ensures { Adds result writer.old writer.new (string (cpu_text cpu) ∷ []) }
+// That container.
+fn put_container(alloc: Global, writer: &mut Writer, request: &Request) -> Result<(), AllocError>
+    ensures { Adds result writer.old writer.new (json_tokens (request_json request.now)) }
 {
-    let thousandths = cpu.0;
-    let text = format!(in alloc; "{thousandths}m")?;
-    writer.string(text.as_str())
+    let thousandths = request.cpu.0;
+    let cpu = format!(in alloc; "{thousandths}m")?;
+    let mut digits = Buffer::new();
+    put_texts(writer, &[cpu.as_str(), digits.format(request.mem.0)])
 }
 
-// Bytes.
-fn put_memory(writer: &mut Writer, mem: Bytes) -> Result<(), AllocError>
-    ensures { Adds result writer.old writer.new (string (memory_text mem) ∷ []) }
-{
-    writer.quoted_u64(mem.0)
+// What stands in an array of a line, one a place.
+pub(crate) trait Item {
+    // As a line tells it.
+    ghost json: { Self → Json };
+
+    // Writes it.
+    fn put(&self, writer: &mut Writer) -> Result<(), AllocError>
+        ensures { Adds result writer.old writer.new (json_tokens (json self.now)) };
 }
 
-// The labels of a row.
-pub(crate) fn put_labels(writer: &mut Writer, labels: &[Label]) -> Result<(), AllocError>
-    ensures { Adds result writer.old writer.new
-        (key (codes "labels") ∷ begin_array ∷ items_tokens (items_json label_json labels.now)) }
-{
-    writer.key("labels")?;
-    writer.begin_array()?;
-    end_labels(writer, labels)
-}
-
-// Their items, and the end of the array.
-fn end_labels(writer: &mut Writer, labels: &[Label]) -> Result<(), AllocError>
-    ensures { Adds result writer.old writer.new (items_tokens (items_json label_json labels.now)) }
-{
-    for label in labels {
-        put_label(writer, label)?;
-    }
-    writer.end_array()
-}
-
-// A label.
-fn put_label(writer: &mut Writer, label: &Label) -> Result<(), AllocError>
-    ensures { Adds result writer.old writer.new (json_tokens (label_json label.now)) }
-{
-    writer.begin_array()?;
-    writer.string(label.key.as_str())?;
-    writer.string(label.value.as_str())?;
-    writer.end_array()
-}
-
-// The taints of a node.
-pub(crate) fn put_taints(writer: &mut Writer, taints: &[Taint]) -> Result<(), AllocError>
-    ensures { Adds result writer.old writer.new
-        (key (codes "taints") ∷ begin_array ∷ items_tokens (items_json taint_json taints.now)) }
-{
-    writer.key("taints")?;
-    writer.begin_array()?;
-    end_taints(writer, taints)
-}
-
-// Their items, and the end of the array.
-fn end_taints(writer: &mut Writer, taints: &[Taint]) -> Result<(), AllocError>
-    ensures { Adds result writer.old writer.new (items_tokens (items_json taint_json taints.now)) }
-{
-    for taint in taints {
-        put_taint(writer, taint)?;
-    }
-    writer.end_array()
-}
-
-// A taint.
-fn put_taint(writer: &mut Writer, taint: &Taint) -> Result<(), AllocError>
-    ensures { Adds result writer.old writer.new (json_tokens (taint_json taint.now)) }
-{
-    writer.begin_array()?;
-    writer.string(taint.key.as_str())?;
-    writer.string(taint.value.as_str())?;
-    writer.string(effect_text(taint.effect))?;
-    writer.end_array()
-}
-
-// The tolerations of a pod.
-pub(crate) fn put_tolerations(
+// An array, with an item for each of these.
+pub(crate) fn put_items<T: Item>(
     writer: &mut Writer,
-    tolerations: &[Toleration],
+    name: &str,
+    items: &[T],
 ) -> Result<(), AllocError>
     ensures { Adds result writer.old writer.new
-        (key (codes "tolerations") ∷ begin_array ∷ items_tokens (items_json toleration_json tolerations.now)) }
+        (key name.now ∷ begin_array ∷ items_tokens (items_json T.json items.now)) }
 {
-    writer.key("tolerations")?;
+    writer.key(name)?;
     writer.begin_array()?;
-    end_tolerations(writer, tolerations)
-}
-
-// Their items, and the end of the array.
-fn end_tolerations(writer: &mut Writer, tolerations: &[Toleration]) -> Result<(), AllocError>
-    ensures { Adds result writer.old writer.new (items_tokens (items_json toleration_json tolerations.now)) }
-{
-    for toleration in tolerations {
-        put_toleration(writer, toleration)?;
+    for item in items {
+        item.put(writer)?;
     }
     writer.end_array()
 }
 
-// A toleration.
-fn put_toleration(writer: &mut Writer, toleration: &Toleration) -> Result<(), AllocError>
-    ensures { Adds result writer.old writer.new (json_tokens (toleration_json toleration.now)) }
+// An array of texts.
+fn put_texts(writer: &mut Writer, items: &[&str]) -> Result<(), AllocError>
+    ensures { Adds result writer.old writer.new (json_tokens (array (items_json (λ text. Json.string text.now) items.now))) }
 {
     writer.begin_array()?;
-    writer.string(toleration.key.as_str())?;
-    writer.string(operator_text(toleration.operator))?;
-    writer.string(toleration.value.as_str())?;
-    writer.string(optional_effect_text(toleration.effect))?;
+    for text in items {
+        writer.string(text)?;
+    }
     writer.end_array()
+}
+
+impl Item for Label {
+    ghost json = { label_json };
+
+    fn put(&self, writer: &mut Writer) -> Result<(), AllocError> {
+        put_texts(writer, &[self.key.as_str(), self.value.as_str()])
+    }
+}
+
+impl Item for Taint {
+    ghost json = { taint_json };
+
+    fn put(&self, writer: &mut Writer) -> Result<(), AllocError> {
+        put_texts(
+            writer,
+            &[
+                self.key.as_str(),
+                self.value.as_str(),
+                effect_text(&self.effect),
+            ],
+        )
+    }
+}
+
+impl Item for Toleration {
+    ghost json = { toleration_json };
+
+    fn put(&self, writer: &mut Writer) -> Result<(), AllocError> {
+        put_texts(
+            writer,
+            &[
+                self.key.as_str(),
+                operator_text(&self.operator),
+                self.value.as_str(),
+                optional_effect_text(&self.effect),
+            ],
+        )
+    }
 }
 
 // The name of a taint's effect.
-fn effect_text(effect: Effect) -> &'static str
-    ensures { result.now ≡ effect_text effect }
+fn effect_text(effect: &Effect) -> &str
+    ensures { result.now ≡ effect_text effect.now }
 {
     match effect {
         Effect::NoSchedule => "NoSchedule",
@@ -201,8 +183,8 @@ fn effect_text(effect: Effect) -> &'static str
 }
 
 // The name of a toleration's effect: none stands for every one.
-fn optional_effect_text(effect: Option<Effect>) -> &'static str
-    ensures { result.now ≡ optional_effect_text effect }
+fn optional_effect_text(effect: &Option<Effect>) -> &str
+    ensures { result.now ≡ optional_effect_text effect.now }
 {
     match effect {
         Some(effect) => effect_text(effect),
@@ -211,8 +193,8 @@ fn optional_effect_text(effect: Option<Effect>) -> &'static str
 }
 
 // The name of a toleration's operator.
-fn operator_text(operator: Operator) -> &'static str
-    ensures { result.now ≡ operator_text operator }
+fn operator_text(operator: &Operator) -> &str
+    ensures { result.now ≡ operator_text operator.now }
 {
     match operator {
         Operator::Equal => "Equal",

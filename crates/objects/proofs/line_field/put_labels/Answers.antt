@@ -1,6 +1,0 @@
-use Rattle.std.proofs.Common.{refl, append_assoc}
-use Rattle.objects.proofs.Added.{with_last}
-use Rattle.objects.proofs.line_field.put_labels.Goals as goal
-
-pub returns : goal.returns
-returns c = with_last c.end_labels.result _ _ c.end_labels.ensures (λ told. (rw (told.0, c.in_ok-begin_array.ensures.ok, c.in_ok-key.ensures.ok) (simp append_assoc), rw (told.1, c.in_ok-begin_array.ensures.room.0, c.in_ok-key.ensures.room.0) refl))
