@@ -9,7 +9,7 @@ use Rattle.objects.specs.LeftOut.{Fault}
 use Rattle.objects.specs.Quantity.{◌>>=◌}
 use Rattle.objects.specs.Site.{Telling}
 use Rattle.objects.specs.Told.{gone_if, kept_back, waiting_told}
-use Rattle.objects.specs.inside.Answers.{Fails, Gives}
+use Rattle.objects.specs.inside.Answers.{Fails, Gives, Answers}
 use Rattle.objects.specs.inside.Telling.{as_told}
 
 -- what keeps a pod back that waits
@@ -26,3 +26,9 @@ pub fault_first : {X Y Z : Type 0} (view : X → Z) (result : Result X ObjectFau
     → result ≡ Err e → Fails e r → Gives view result (r >>= f)
 fault_first view result NoMemory r f is h = rw is tt
 fault_first view result (Refused why field) r f is h = rw is (ap (λ x. x >>= f) h)
+
+-- what is answered is given as it is seen
+pub passed_on : {X Y : Type 0} (view : X → Y) (result : Result X ObjectFault) (r : Result X Fault) → Answers result r → Gives view result (r >>= λ x. Ok (view x))
+passed_on view (Ok x) r h = rw h refl
+passed_on view (Err NoMemory) r h = tt
+passed_on view (Err (Refused why field)) r h = rw h refl

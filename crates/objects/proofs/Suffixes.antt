@@ -1,6 +1,7 @@
 -- The powers of a suffix are small.
-use Rattle.std.proofs.Common.{◌≡◌, ◌≢◌, ℕ, ◌<◌, ◌≤◌, Bool, true, false, nat_le, ◌&&◌, ◌||◌, List, [], ◌∷◌, take, drop, codes, length, get_or, bytes_eq, Result, Ok, Err, refl, sym, ap, subst, ◌∙◌, arith, leb-true, ne_eqb}
+use Rattle.std.proofs.Common.{◌≡◌, ℕ, ◌<◌, ◌≤◌, Bool, true, false, nat_le, ◌-◌, ◌&&◌, ◌||◌, ◌==◌, cond, List, [], ◌∷◌, take, drop, codes, length, get_or, bytes_eq, Result, Ok, Err, refl, sym, ap, subst, ◌∙◌, arith, leb-true}
 use Rattle.std.proofs.lemmas.Bool.{and_parts}
+use Rattle.std.proofs.lemmas.Bool.Decides.{nat_tests}
 use Rattle.std.proofs.lemmas.Slice.Eq.{bytes_eq-Decides}
 use Rattle.std.specs.List.{list_all, prefix_len}
 use Rattle.quant.specs.Amount.{is_digit, number}
@@ -91,7 +92,7 @@ pub read_small : (is_nothing : Bool) (text : List ℕ) (named whole : Result Suf
 read_small is_nothing text named whole s is told e =
     was_small (of_nothing is_nothing (suffix_named text)) s (of_nothing_small is_nothing (suffix_named text) (suffix_small text)) (ap (of_nothing is_nothing) (sym is) ∙ sym told ∙ e)
 
--- ---- a longer text is none
+-- ---- what the letters of a suffix are
 
 by_length : (xs ys : List ℕ) (b : Bool) → (b ≡ true → xs ≡ ys) → length ys < length xs → b ≡ false
 by_length xs ys true same h = absurd (omega (arith, h, ap length (same refl)))
@@ -100,13 +101,29 @@ by_length xs ys false same h = refl
 differs : (xs ys : List ℕ) → length ys < length xs → bytes_eq xs ys ≡ false
 differs xs ys h = by_length xs ys (bytes_eq xs ys) (bytes_eq-Decides xs ys).0 h
 
-pub no_suffix : (text : List ℕ) → 3 ≤ length text → get_or text 0 0 ≢ 101 → get_or text 0 0 ≢ 69 → Err NotAQuantity ≡ suffix_named text
+and_false : (b : Bool) → (b && false) ≡ false
+and_false true = refl
+and_false false = refl
+
+and_true : (b : Bool) → (b && true) ≡ b
+and_true true = refl
+and_true false = refl
+
+-- no text is the suffix of one
+pub none_is_one : (text : List ℕ) → length text < 1 → Ok (power_of_ten false 0) ≡ suffix_named text
 unfolding suffix_named
-no_suffix [] long e big_e = absurd (omega (arith, long))
-no_suffix (x ∷ xs) long e big_e =
-    let text = x ∷ xs in
-    let one : (letter : ℕ) → bytes_eq text (letter ∷ []) ≡ false = λ letter. differs text (letter ∷ []) (omega (arith, long)) in
-    let two : (letter : ℕ) → bytes_eq text (letter ∷ 105 ∷ []) ≡ false = λ letter. differs text (letter ∷ 105 ∷ []) (omega (arith, long)) in
+none_is_one [] h = refl
+none_is_one (x ∷ text) h = absurd (omega (arith, h))
+
+-- a text that is neither a letter nor one in front of an `i` may be an exponent
+longer : (x : ℕ) (rest : List ℕ) → 1 ≤ length rest → bytes_eq rest (codes "i") ≡ false
+    → suffix_named (x ∷ rest) ≡ cond (x == 101 || x == 69) (exponent rest) (Err NotAQuantity)
+unfolding suffix_named
+longer x [] some other = absurd (omega (arith, some))
+longer x (y ∷ rest) some other =
+    let text = x ∷ y ∷ rest in
+    let one : (letter : ℕ) → bytes_eq text (letter ∷ []) ≡ false = λ letter. differs text (letter ∷ []) (omega arith) in
+    let two : (letter : ℕ) → bytes_eq text (letter ∷ 105 ∷ []) ≡ false = λ letter. rw other (and_false (x == letter)) in
     rw (
       one 110,
       one 117,
@@ -123,6 +140,21 @@ no_suffix (x ∷ xs) long e big_e =
       two 84,
       two 80,
       two 69,
-      ne_eqb x 101 e,
-      ne_eqb x 69 big_e,
+      and_true (x == 101),
+      and_true (x == 69),
     ) refl
+
+all_taken : (xs : List ℕ) → take (length xs) xs ≡ xs
+all_taken [] = refl
+all_taken (x ∷ xs) = ap (λ ys. x ∷ ys) (all_taken xs)
+
+pub longer_text : (text : List ℕ) → 1 ≤ length text → false ≡ (length (take (length text - 1) (drop 1 text)) == 0)
+    → bytes_eq (take (length text - 1) (drop 1 text)) (codes "i") ≡ false
+    → suffix_named text ≡ cond (get_or text 0 0 == 101 || get_or text 0 0 == 69) (exponent (take (length text - 1) (drop 1 text))) (Err NotAQuantity)
+longer_text [] h some other = absurd (omega (arith, h))
+longer_text (x ∷ xs) h some other =
+    let count : length (x ∷ xs) - 1 ≡ length xs = omega arith in
+    let same : take (length (x ∷ xs) - 1) xs ≡ xs = ap (λ n. take n xs) count ∙ all_taken xs in
+    subst (λ rest. false ≡ (length rest == 0) → bytes_eq rest (codes "i") ≡ false
+    → suffix_named (x ∷ xs) ≡ cond (x == 101 || x == 69) (exponent rest) (Err NotAQuantity))
+    (sym same) (λ s o. longer x xs (grind (arith, nat_tests)) o) some other

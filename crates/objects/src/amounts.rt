@@ -3,8 +3,9 @@ ghost use Rattle.std.specs.Prelude.{◌≡◌, ◌≤◌, IfOk, option_map};
 ghost use Rattle.serde_json.specs.View.{view};
 ghost use Rattle.objects.specs.Quantity.{most};
 ghost use Rattle.objects.specs.declared.amounts.Part.TheVariants as parts;
-ghost use Rattle.objects.specs.Amounts.{amount_of, offered, allocatable, under, listed_in, in_resources, found_in, amount_in, at_most, taken, amounts};
+ghost use Rattle.objects.specs.Amounts.{amount_of, offered, allocatable, under, in_resources, found_in, amount_in, at_most, taken, amounts};
 ghost use Rattle.objects.specs.inside.Answers.{Answers, Tells};
+ghost use Rattle.objects.specs.inside.Listed.{listed};
 
 use crate::fault::{ObjectFault, Why};
 use crate::quantity::{Rounding, quantity};
@@ -78,6 +79,20 @@ pub(crate) fn under<'a>(
     Ok(field(object, key))
 }
 
+// An amount in a field of amounts of what stands in the field `holder`.
+fn listed_in<'a>(
+    value: Option<&'a Value>,
+    holder: &'static str,
+    part: &'static str,
+    resource: Resource,
+) -> Result<Option<&'a Value>, ObjectFault>
+    ensures { Tells (λ found. option_map (λ v. view v.now) found) result
+        (listed holder.now part.now resource (option_map (λ v. view v.now) value.entry)) }
+{
+    let amounts = under(value, holder, part)?;
+    under(amounts, part, resource.key())
+}
+
 // An amount in a part of the resources of what stands in the field `holder`.
 #[tactic(auto, unfolding(crate::specs::Amounts::in_resources))]
 fn in_resources<'a>(
@@ -90,8 +105,7 @@ fn in_resources<'a>(
         (in_resources holder.now part.now resource (view object.now)) }
 {
     let resources = under(Some(object), holder, "resources")?;
-    let amounts = under(resources, "resources", part)?;
-    under(amounts, part, resource.key())
+    listed_in(resources, "resources", part, resource)
 }
 
 /// Where an object tells amounts.
@@ -122,20 +136,6 @@ fn asked<'a>(
     Ok(request.or(limit))
 }
 
-// An amount in a field of amounts.
-fn listed_in<'a>(
-    object: &'a Value,
-    holder: &'static str,
-    part: &'static str,
-    resource: Resource,
-) -> Result<Option<&'a Value>, ObjectFault>
-    ensures { Tells (λ found. option_map (λ v. view v.now) found) result
-        (listed_in holder.now part.now resource (view object.now)) }
-{
-    let amounts = under(Some(object), holder, part)?;
-    under(amounts, part, resource.key())
-}
-
 // What a part of an object says of a resource.
 #[tactic(auto, unfolding(crate::specs::Amounts::found_in))]
 fn found_in<'a>(
@@ -149,8 +149,8 @@ fn found_in<'a>(
 {
     match part {
         Part::Asked => asked(object, holder, resource),
-        Part::Overhead => listed_in(object, holder, "overhead", resource),
-        Part::Allocated => listed_in(object, holder, "allocatedResources", resource),
+        Part::Overhead => listed_in(Some(object), holder, "overhead", resource),
+        Part::Allocated => listed_in(Some(object), holder, "allocatedResources", resource),
         Part::Requested => in_resources(object, holder, "requests", resource),
     }
 }

@@ -3,13 +3,13 @@ ghost use Rattle.std.specs.Prelude.{◌≡◌, ◌++◌, ◌&&◌, ℕ, not, Lis
 ghost use Rattle.serde_json.specs.Data.{Data};
 ghost use Rattle.serde_json.specs.Find.{as_object};
 ghost use Rattle.serde_json.specs.View.{view, items_view, members_view};
-ghost use Rattle.objects.specs.Demands.{each_item, array_gives, affinity, is_wished, has_spread, asks_spread, is_one_of, has_only, are_parts_if, is_read_kind, has_kinds, is_read_affinity, free, free_or_claimed, is_tied, volume, node_port, host_port, is_nothing, other_resources, object_gives, other_resource, resources_of, container, is_known, other_field, other_fields, fields_of, placement, demands, wishes};
+ghost use Rattle.objects.specs.Demands.{each_item, array_gives, affinity, is_wished, has_spread, asks_spread, is_one_of, has_only, are_parts_if, is_read_kind, has_kinds, is_read_affinity, free, free_or_claimed, is_tied, volume, node_port, host_port, is_nothing, other_resources, object_gives, other_resource, resources_of, container, other_field, other_fields, fields_of, placement, demands, wishes};
 ghost use Rattle.objects.specs.Reading.{said, field, is_given, has};
 ghost use Rattle.objects.specs.LeftOut.{left_out, left_out_if};
 ghost use Rattle.objects.specs.inside.Otherwise.{otherwise};
 
 use crate::amounts::amount_of;
-use crate::left_out::{put_left_out, put_left_out_if};
+use crate::left_out::{put_each_if, put_left_out};
 use crate::quantity::Rounding;
 use crate::reading::{field, has, is_given, spelled, within};
 use crate::resource::Resource;
@@ -20,11 +20,12 @@ use std::alloc::AllocError;
 // The kinds of affinity that are looked at.
 const KINDS: [&str; 3] = ["nodeAffinity", "podAffinity", "podAntiAffinity"];
 
-// The parts of each.
-const PARTS: [&str; 2] = [
-    "requiredDuringSchedulingIgnoredDuringExecution",
-    "preferredDuringSchedulingIgnoredDuringExecution",
-];
+// The parts of each: what a pod must have, and what it can do without.
+pub(crate) const REQUIRED: &str = "requiredDuringSchedulingIgnoredDuringExecution";
+
+const PREFERRED: &str = "preferredDuringSchedulingIgnoredDuringExecution";
+
+const PARTS: [&str; 2] = [REQUIRED, PREFERRED];
 
 // The kinds of volumes that are claimed, a volume's name, and the kinds that tie a pod to no node.
 const FREE_OR_CLAIMED: [&str; 12] = [
@@ -98,33 +99,38 @@ pub(crate) fn put_demands(out: &mut Vec<u8>, spec: &Value, is_told: bool) -> Res
     ensures { IfOk result (λ _. out.new.items ≡ out.old.items ++ demands is_told (view spec.now)) }
 {
     put_placement(out, spec, is_told)?;
-    put_given(out, spec, "schedulingGates", "scheduling gates")?;
-    put_given(out, spec, "resourceClaims", "resource claims")?;
     put_volumes(out, spec, is_told)?;
     put_list::<Container>(out, spec, "containers", None)?;
     put_list::<Container>(out, spec, "initContainers", None)?;
-    put_overhead(out, spec)?;
+    put_members(out, field(spec, "overhead"), None)?;
     put_fields(out, spec)
 }
 
-// Puts the names of what it must have of its node and of other pods.
+// Puts the names of what it must have of its node and of other pods, and of what it waits for.
 #[tactic(auto, unfolding(crate::specs::Demands::placement))]
 fn put_placement(out: &mut Vec<u8>, spec: &Value, is_told: bool) -> Result<(), AllocError>
-    ensures { IfOk result (λ _. out.new.items ≡ out.old.items ++ placement is_told (view spec.now)) }
+    ensures { IfOk result (λ _. out.new.items ≡ out.old.items ++ placement is_told (view spec.now)
+        ++ left_out_if (is_given (field (codes "schedulingGates") (view spec.now))) (codes "scheduling gates")
+        ++ left_out_if (is_given (field (codes "resourceClaims") (view spec.now))) (codes "resource claims")) }
 {
-    let part = "requiredDuringSchedulingIgnoredDuringExecution";
-    put_unless_told(out, spec, is_told, "nodeSelector", "node selector")?;
-    put_node_affinity(out, spec, is_told, part, "required node affinity")?;
-    put_affinity(out, spec, "podAffinity", part, "required pod affinity")?;
-    put_affinity(
+    let selector = field(spec, "nodeSelector");
+    let nodes = affinity(spec, "nodeAffinity", REQUIRED);
+    put_each_if(
         out,
-        spec,
-        "podAntiAffinity",
-        part,
-        "required pod anti-affinity",
-    )?;
-    put_unread_affinity(out, spec)?;
-    put_spread(out, spec, false, "required topology spread")
+        &[
+            (is_untold(selector, is_told), "node selector"),
+            (is_untold(nodes, is_told), "required node affinity"),
+            (asks(spec, "podAffinity", REQUIRED), "required pod affinity"),
+            (
+                asks(spec, "podAntiAffinity", REQUIRED),
+                "required pod anti-affinity",
+            ),
+            (!is_read_affinity(field(spec, "affinity")), "affinity"),
+            (asks_spread(spec, false), "required topology spread"),
+            (is_given(field(spec, "schedulingGates")), "scheduling gates"),
+            (is_given(field(spec, "resourceClaims")), "resource claims"),
+        ],
+    )
 }
 
 // Puts the names of what it can do without.
@@ -132,47 +138,22 @@ fn put_placement(out: &mut Vec<u8>, spec: &Value, is_told: bool) -> Result<(), A
 pub(crate) fn put_wishes(out: &mut Vec<u8>, spec: &Value, is_told: bool) -> Result<(), AllocError>
     ensures { IfOk result (λ _. out.new.items ≡ out.old.items ++ wishes is_told (view spec.now)) }
 {
-    let part = "preferredDuringSchedulingIgnoredDuringExecution";
-    put_node_affinity(out, spec, is_told, part, "preferred node affinity")?;
-    put_affinity(out, spec, "podAffinity", part, "preferred pod affinity")?;
-    put_affinity(
+    let nodes = affinity(spec, "nodeAffinity", PREFERRED);
+    put_each_if(
         out,
-        spec,
-        "podAntiAffinity",
-        part,
-        "preferred pod anti-affinity",
-    )?;
-    put_spread(out, spec, true, "preferred topology spread")
-}
-
-// Puts a name where something stands in a field that isn't told.
-fn put_unless_told(
-    out: &mut Vec<u8>,
-    spec: &Value,
-    is_told: bool,
-    key: &str,
-    what: &str,
-) -> Result<(), AllocError>
-    ensures { IfOk result (λ _. out.new.items ≡ out.old.items
-        ++ left_out_if (not is_told && is_given (field key.now (view spec.now))) what.now) }
-{
-    let is_asked = !is_told && is_given(field(spec, key));
-    put_left_out_if(out, is_asked, what)
-}
-
-// Puts a name where something stands in this part of a node affinity that isn't told.
-fn put_node_affinity(
-    out: &mut Vec<u8>,
-    spec: &Value,
-    is_told: bool,
-    part: &str,
-    what: &str,
-) -> Result<(), AllocError>
-    ensures { IfOk result (λ _. out.new.items ≡ out.old.items
-        ++ left_out_if (not is_told && is_given (affinity (codes "nodeAffinity") part.now (view spec.now))) what.now) }
-{
-    let is_asked = !is_told && is_given(affinity(spec, "nodeAffinity", part));
-    put_left_out_if(out, is_asked, what)
+        &[
+            (is_untold(nodes, is_told), "preferred node affinity"),
+            (
+                asks(spec, "podAffinity", PREFERRED),
+                "preferred pod affinity",
+            ),
+            (
+                asks(spec, "podAntiAffinity", PREFERRED),
+                "preferred pod anti-affinity",
+            ),
+            (asks_spread(spec, true), "preferred topology spread"),
+        ],
+    )
 }
 
 // Puts the names of the volumes that tie a pod to a node, but for those that are claimed, where
@@ -189,26 +170,18 @@ fn put_volumes(out: &mut Vec<u8>, spec: &Value, is_told: bool) -> Result<(), All
     }
 }
 
-// Puts a name where something stands in a field.
-fn put_given(out: &mut Vec<u8>, spec: &Value, key: &str, what: &str) -> Result<(), AllocError>
-    ensures { IfOk result (λ _. out.new.items
-        ≡ out.old.items ++ left_out_if (is_given (field key.now (view spec.now))) what.now) }
+// Whether something is asked for that isn't told.
+fn is_untold(value: Option<&Value>, is_told: bool) -> bool
+    ensures { result ≡ (not is_told && is_given (option_map (λ v. view v.now) value.entry)) }
 {
-    put_left_out_if(out, is_given(field(spec, key)), what)
+    !is_told && is_given(value)
 }
 
-// Puts a name where something stands in a part of an affinity.
-pub(crate) fn put_affinity(
-    out: &mut Vec<u8>,
-    spec: &Value,
-    kind: &str,
-    part: &str,
-    what: &str,
-) -> Result<(), AllocError>
-    ensures { IfOk result (λ _. out.new.items
-        ≡ out.old.items ++ left_out_if (is_given (affinity kind.now part.now (view spec.now))) what.now) }
+// Whether something stands in a part of an affinity.
+pub(crate) fn asks(spec: &Value, kind: &str, part: &str) -> bool
+    ensures { result ≡ is_given (affinity kind.now part.now (view spec.now)) }
 {
-    put_left_out_if(out, is_given(affinity(spec, kind, part)), what)
+    is_given(affinity(spec, kind, part))
 }
 
 // A part of an affinity.
@@ -260,31 +233,11 @@ fn put_items<T: Listed>(out: &mut Vec<u8>, found: &[Value]) -> Result<(), AllocE
     Ok(())
 }
 
-// Puts that a pod asks for a spread that it can do without, or for one that it can't.
-fn put_spread(out: &mut Vec<u8>, spec: &Value, wished: bool, what: &str) -> Result<(), AllocError>
-    ensures { IfOk result (λ _. out.new.items ≡ out.old.items
-        ++ left_out_if (asks_spread wished (field (codes "topologySpreadConstraints") (view spec.now))) what.now) }
+// Whether one of the spreads that a pod asks for is one that it can do without, or isn't.
+fn asks_spread(spec: &Value, wished: bool) -> bool
+    ensures { result ≡ asks_spread wished (field (codes "topologySpreadConstraints") (view spec.now)) }
 {
-    put_left_out_if(
-        out,
-        asks_spread(field(spec, "topologySpreadConstraints"), wished),
-        what,
-    )
-}
-
-// Puts that an affinity is of more than what is looked at.
-fn put_unread_affinity(out: &mut Vec<u8>, spec: &Value) -> Result<(), AllocError>
-    ensures { IfOk result (λ _. out.new.items ≡ out.old.items
-        ++ left_out_if (not (is_read_affinity (field (codes "affinity") (view spec.now)))) (codes "affinity")) }
-{
-    put_left_out_if(out, !is_read_affinity(field(spec, "affinity")), "affinity")
-}
-
-// Whether one of the spreads in a field is one that a pod can do without, or isn't.
-fn asks_spread(value: Option<&Value>, wished: bool) -> bool
-    ensures { result ≡ asks_spread wished (option_map (λ v. view v.now) value.entry) }
-{
-    let Some(value) = value else {
+    let Some(value) = field(spec, "topologySpreadConstraints") else {
         return false;
     };
     match value.as_array() {
@@ -319,16 +272,9 @@ fn is_read_affinity(value: Option<&Value>) -> bool
     let Some(value) = value else {
         return true;
     };
-    match value.as_object() {
-        Some(members) => has_kinds(members),
-        None => false,
-    }
-}
-
-// Whether each member of an affinity is of a kind that is looked at.
-fn has_kinds(members: &Map<String, Value>) -> bool
-    ensures { result ≡ has_kinds (members_view members.now.entries) }
-{
+    let Some(members) = value.as_object() else {
+        return false;
+    };
     for (key, value) in members.iter() {
         if !is_read_kind(key.as_str(), value) {
             return false;
@@ -544,30 +490,14 @@ fn is_nothing(value: &Value) -> bool
     }
 }
 
-// Puts the resources beyond CPU and memory that running a pod costs.
-fn put_overhead(out: &mut Vec<u8>, spec: &Value) -> Result<(), AllocError>
-    ensures { IfOk result (λ _. out.new.items
-        ≡ out.old.items ++ object_gives (has None) (field (codes "overhead") (view spec.now))) }
-{
-    put_members(out, field(spec, "overhead"), None)
-}
-
 // Puts the fields of a spec that aren't known to tie a pod to no node, where something stands in
 // them.
 fn put_fields(out: &mut Vec<u8>, spec: &Value) -> Result<(), AllocError>
     ensures { IfOk result (λ _. out.new.items ≡ out.old.items ++ fields_of (as_object (view spec.now))) }
 {
-    match spec.as_object() {
-        Some(members) => put_other_fields(out, members),
-        None => Ok(()),
-    }
-}
-
-// Puts those of an object's members that aren't known.
-fn put_other_fields(out: &mut Vec<u8>, members: &Map<String, Value>) -> Result<(), AllocError>
-    ensures { IfOk result (λ _. out.new.items
-        ≡ out.old.items ++ other_fields (members_view members.now.entries)) }
-{
+    let Some(members) = spec.as_object() else {
+        return Ok(());
+    };
     for (key, value) in members.iter() {
         put_other_field(out, key.as_str(), value)?;
     }
@@ -579,16 +509,9 @@ fn put_other_fields(out: &mut Vec<u8>, members: &Map<String, Value>) -> Result<(
 fn put_other_field(out: &mut Vec<u8>, key: &str, value: &Value) -> Result<(), AllocError>
     ensures { IfOk result (λ _. out.new.items ≡ out.old.items ++ other_field key.now (view value.now)) }
 {
-    if is_known(key) || value.is_null() || !is_given(Some(value)) {
+    if is_one_of(&KNOWN, key) || value.is_null() || !is_given(Some(value)) {
         Ok(())
     } else {
         put_left_out(out, "field ", key.as_bytes())
     }
-}
-
-// Whether a field is told or looked at, or ties a pod to no node.
-fn is_known(key: &str) -> bool
-    ensures { result ≡ is_known key.now }
-{
-    is_one_of(&KNOWN, key)
 }

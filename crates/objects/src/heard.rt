@@ -3,7 +3,7 @@ ghost use Rattle.std.specs.Prelude.{◌≡◌, ◌<◌, [], length, Ok, option_m
 ghost use Rattle.std.specs.List.{list_all};
 ghost use Rattle.quant.specs.Amount.{is_digit, number};
 ghost use Rattle.serde_json.specs.View.{view};
-ghost use Rattle.objects.specs.Heard.{a_version, version_in, is_none_type, shows_none, uid_in, has_no_node, is_waiting, is_row, hears, heard_by, heard_of, hearing, heard, names_of, value_in, IsValue, none_heard};
+ghost use Rattle.objects.specs.Heard.{a_version, version_in, shows_none, uid_in, has_no_node, is_waiting, is_row, hears, heard_by, heard_of, hearing, heard, names_of, value_in, IsValue, none_heard};
 ghost use Rattle.objects.specs.LeftOut.{fault_text, refused};
 ghost use Rattle.objects.specs.declared.heard.Heard.TheVariants as heard_as;
 ghost use Rattle.objects.specs.declared.heard.NoValue.TheVariants as no_values;
@@ -164,8 +164,7 @@ fn heard_of(
 {
     let version = version_of(object_in(json))?;
     let event = value_told(alloc, names, json, site, true, version)?;
-    let heard = heard_by(version, json, event)?;
-    Ok(heard)
+    heard_by(version, json, event)
 }
 
 // What is heard of an object by the event that a script's line tells.
@@ -196,14 +195,7 @@ fn is_row(event: &Option<Event>) -> bool
 fn shows_none(json: &Value) -> bool
     ensures { result ≡ shows_none (view json.now) }
 {
-    field(json, "object").is_some() && is_none_type(spelled(json, "type"))
-}
-
-// Whether an event of this type shows none.
-fn is_none_type(kind: &str) -> bool
-    ensures { result ≡ is_none_type kind.now }
-{
-    matches!(kind, "DELETED" | "BOOKMARK")
+    field(json, "object").is_some() && matches!(spelled(json, "type"), "DELETED" | "BOOKMARK")
 }
 
 // Whether an object is a pod that hasn't ended and has no node.

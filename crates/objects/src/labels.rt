@@ -225,8 +225,12 @@ fn fitting(before: &[Label], key: &str, value: &str) -> Option<Label>
     ensures value { result ≡ fitting before.now (record { key = key.now; value = value.now }) }
     ensures room { OnSome result (length before.now < 32) }
 {
-    let key = Name::new(key.as_bytes()).ok()?;
-    let value = Text::new(value.as_bytes()).ok()?;
+    let Ok(key) = Name::new(key.as_bytes()) else {
+        return None;
+    };
+    let Ok(value) = Text::new(value.as_bytes()) else {
+        return None;
+    };
     if before.len() < MAX_LABELS && !has_key(before, &key) {
         Some(Label { key, value })
     } else {

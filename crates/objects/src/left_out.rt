@@ -1,5 +1,5 @@
 //! The names of what a line doesn't tell of an object.
-ghost use Rattle.std.specs.Prelude.{◌≡◌, ◌++◌, ◌≤◌, drop, length, take, IfOk};
+ghost use Rattle.std.specs.Prelude.{◌≡◌, ◌++◌, ◌≤◌, drop, length, take, flat_map, IfOk};
 ghost use Rattle.std.specs.List.{list_all};
 ghost use Rattle.quant.specs.Name.{is_name_byte};
 ghost use Rattle.objects.specs.LeftOut.{shown, left_out, left_out_if, refused, fault_text, told_names, up_to_marks};
@@ -30,7 +30,19 @@ pub(crate) fn put_left_out_if(out: &mut Vec<u8>, is: bool, what: &str) -> Result
     ensures { IfOk result (λ _. out.new.items ≡ out.old.items ++ left_out_if is what.now) }
 {
     if is {
-        put_left_out(out, what, b"")?;
+        put_left_out(out, what, b"")
+    } else {
+        Ok(())
+    }
+}
+
+// Puts those of these names that are there, none of which has a name of its own.
+pub(crate) fn put_each_if(out: &mut Vec<u8>, names: &[(bool, &str)]) -> Result<(), AllocError>
+    ensures { IfOk result (λ _. out.new.items
+        ≡ out.old.items ++ flat_map (λ name. left_out_if name.0 name.1.now) names.now) }
+{
+    for (is, what) in names {
+        put_left_out_if(out, *is, what)?;
     }
     Ok(())
 }

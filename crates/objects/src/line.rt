@@ -120,18 +120,18 @@ fn write_bound(
     writer.end_object()
 }
 
-// Writes that something is gone, by its name.
+// Writes that something is gone, by its name under this key.
 fn write_named(
     writer: &mut Writer,
     op: &str,
     version: Version,
-    field: &str,
+    under: &str,
     name: &Name,
 ) -> Result<(), AllocError>
     ensures { Adds result writer.old writer.new
         (begin_object ∷ key (codes "op") ∷ string op.now ∷ key (codes "v") ∷ number (decimal version.0)
-        ∷ key field.now ∷ string name.now ∷ end_object ∷ []) }
+        ∷ key under.now ∷ string name.now ∷ end_object ∷ []) }
 {
-    put_head(writer, op, version, field, name)?;
+    put_head(writer, op, version, under, name)?;
     writer.end_object()
 }

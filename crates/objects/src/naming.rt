@@ -48,14 +48,26 @@ fn known_as(alloc: Global, kind: &str, namespace: &str, name: &str) -> Result<Ve
     ensures { IfOk result (λ text. text.items ≡ known_as kind.now namespace.now name.now) }
 {
     let mut text = Vec::new(alloc);
+    put_known_as(&mut text, kind, namespace, name)?;
+    Ok(text)
+}
+
+// Puts that name.
+fn put_known_as(
+    text: &mut Vec<u8>,
+    kind: &str,
+    namespace: &str,
+    name: &str,
+) -> Result<(), AllocError>
+    ensures { IfOk result (λ _. text.new.items ≡ text.old.items ++ known_as kind.now namespace.now name.now) }
+{
     if name.is_empty() {
-        return Ok(text);
+        return Ok(());
     }
     text.extend_from_slice(kind_shown(kind))?;
     text.extend_from_slice(b" ")?;
-    put_namespace(&mut text, namespace)?;
-    text.extend_from_slice(shown(name.as_bytes()))?;
-    Ok(text)
+    put_namespace(text, namespace)?;
+    text.extend_from_slice(shown(name.as_bytes()))
 }
 
 // A kind as it is shown: an item of a raw list says none.

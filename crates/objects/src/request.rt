@@ -3,7 +3,7 @@ ghost use Rattle.std.specs.Prelude.{◌≡◌, ◌++◌, ◌+◌, ◌≤◌, ◌
 ghost use Rattle.serde_json.specs.View.{view, items_view};
 ghost use Rattle.quant.specs.Request.{request_of};
 ghost use Rattle.objects.specs.Containers.{of, together, beside_others, going_on, peak, effective};
-ghost use Rattle.objects.specs.PodRequest.{stands, some_or_unread, some_container, within_limits, held_as_a_whole, by_containers, as_asked, or_more, as_held, in_all, running, request_by, request, more_left_out, is_status_read, are_read, are_statuses_read, is_whole_read, is_held_read, held_left_out};
+ghost use Rattle.objects.specs.PodRequest.{stands, some_or_unread, some_container, within_limits, held_as_a_whole, by_containers, as_asked, or_more, as_held, in_all, running, request_by, request, more_left_out, is_status_read, are_read, are_statuses_read, is_whole_read, is_held_read};
 ghost use Rattle.objects.specs.inside.Answers.{Gives, Answers};
 
 use crate::amounts::{Part, amounts, at_most};
@@ -11,7 +11,7 @@ use crate::containers::{
     Container, are_few, containers, larger, put_container, status_request, statuses, unread,
 };
 use crate::fault::{ObjectFault, Why};
-use crate::left_out::{put_left_out_if, put_refused};
+use crate::left_out::put_refused;
 use crate::reading::{field, is_given, items_of};
 use crate::resource::Resource;
 use quant::{Bytes, Cpu, Request};
@@ -236,26 +236,9 @@ pub(crate) fn put_more_left_out(
     }
 }
 
-// Puts that the pod counts for more than its status says, where that can't be read.
-#[tactic(auto, unfolding(crate::specs::PodRequest::held_left_out))]
-pub(crate) fn put_held_left_out(
-    out: &mut Vec<u8>,
-    pod: &Value,
-    spec: &Value,
-) -> Result<(), AllocError>
-    ensures { IfOk result (λ _. out.new.items
-        ≡ out.old.items ++ held_left_out (view pod.now) (view spec.now)) }
-{
-    put_left_out_if(
-        out,
-        !is_held_read(pod, spec),
-        "what its status says that it holds",
-    )
-}
-
 // Whether all that a pod's status says that is held can be read.
 #[tactic(auto, unfolding(crate::specs::PodRequest::is_held_read))]
-fn is_held_read(pod: &Value, spec: &Value) -> bool
+pub(crate) fn is_held_read(pod: &Value, spec: &Value) -> bool
     ensures { result ≡ is_held_read (view pod.now) (view spec.now) }
 {
     are_statuses_read(pod, spec, "containers", "containerStatuses")

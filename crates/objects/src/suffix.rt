@@ -1,5 +1,5 @@
 //! What stands behind the digits of a quantity.
-ghost use Rattle.std.specs.Prelude.{◌≡◌};
+ghost use Rattle.std.specs.Prelude.{◌≡◌, [], ◌∷◌, codes};
 ghost use Rattle.objects.specs.Suffix.{suffix_named, exponent, exponent_digits, power_of_ten, power_of_two};
 
 use crate::digits::{behind_zeros, number_of, split_sign};
@@ -22,29 +22,56 @@ pub(crate) struct Suffix {
 }
 
 // The suffix that a text is.
-#[tactic(auto, unfolding(crate::specs::Suffix::suffix_named))]
 pub(crate) fn suffix_named(text: &[u8]) -> Result<Suffix, QuantityFault>
     ensures { result ≡ suffix_named text.now }
 {
-    match text {
-        b"n" => Ok(power_of_ten(true, 9)),
-        b"u" => Ok(power_of_ten(true, 6)),
-        b"m" => Ok(power_of_ten(true, 3)),
-        [] => Ok(power_of_ten(false, 0)),
-        b"k" => Ok(power_of_ten(false, 3)),
-        b"M" => Ok(power_of_ten(false, 6)),
-        b"G" => Ok(power_of_ten(false, 9)),
-        b"T" => Ok(power_of_ten(false, 12)),
-        b"P" => Ok(power_of_ten(false, 15)),
-        b"E" => Ok(power_of_ten(false, 18)),
-        b"Ki" => Ok(power_of_two(10)),
-        b"Mi" => Ok(power_of_two(20)),
-        b"Gi" => Ok(power_of_two(30)),
-        b"Ti" => Ok(power_of_two(40)),
-        b"Pi" => Ok(power_of_two(50)),
-        b"Ei" => Ok(power_of_two(60)),
-        [b'e', exponent @ ..] => read_exponent(exponent),
-        [b'E', exponent @ ..] => read_exponent(exponent),
+    let [letter, rest @ ..] = text else {
+        return Ok(power_of_ten(false, 0));
+    };
+    if rest.is_empty() {
+        return letter_suffix(*letter);
+    }
+    if rest == b"i".as_slice() {
+        return binary_suffix(*letter);
+    }
+    if *letter == b'e' || *letter == b'E' {
+        read_exponent(rest)
+    } else {
+        Err(QuantityFault::NotAQuantity)
+    }
+}
+
+// The suffix of one letter.
+#[tactic(auto, unfolding(crate::specs::Suffix::suffix_named))]
+fn letter_suffix(letter: u8) -> Result<Suffix, QuantityFault>
+    ensures { result ≡ suffix_named (letter ∷ []) }
+{
+    match letter {
+        b'n' => Ok(power_of_ten(true, 9)),
+        b'u' => Ok(power_of_ten(true, 6)),
+        b'm' => Ok(power_of_ten(true, 3)),
+        b'k' => Ok(power_of_ten(false, 3)),
+        b'M' => Ok(power_of_ten(false, 6)),
+        b'G' => Ok(power_of_ten(false, 9)),
+        b'T' => Ok(power_of_ten(false, 12)),
+        b'P' => Ok(power_of_ten(false, 15)),
+        b'E' => Ok(power_of_ten(false, 18)),
+        _ => Err(QuantityFault::NotAQuantity),
+    }
+}
+
+// The suffix of a letter and an `i`.
+#[tactic(auto, unfolding(crate::specs::Suffix::suffix_named))]
+fn binary_suffix(letter: u8) -> Result<Suffix, QuantityFault>
+    ensures { result ≡ suffix_named (letter ∷ codes "i") }
+{
+    match letter {
+        b'K' => Ok(power_of_two(10)),
+        b'M' => Ok(power_of_two(20)),
+        b'G' => Ok(power_of_two(30)),
+        b'T' => Ok(power_of_two(40)),
+        b'P' => Ok(power_of_two(50)),
+        b'E' => Ok(power_of_two(60)),
         _ => Err(QuantityFault::NotAQuantity),
     }
 }

@@ -49,7 +49,9 @@ fn taint_of(before: &[Taint], item: &Value) -> Result<Taint, ObjectFault>
     let key = text_at(item, "key")?;
     let value = text_or(item, "value", "")?;
     let named = text_at(item, "effect")?;
-    let effect = effect_named(named).ok_or(ObjectFault::Refused(Why::BadField, "effect"))?;
+    let Some(effect) = effect_named(named) else {
+        return Err(ObjectFault::Refused(Why::BadField, "effect"));
+    };
     a_taint(before, key, value, effect)
 }
 

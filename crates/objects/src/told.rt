@@ -8,18 +8,18 @@ ghost use Rattle.objects.specs.declared.fault.Why.TheVariants as whys;
 ghost use Rattle.objects.specs.LeftOut.{refused, fault_text};
 ghost use Rattle.objects.specs.PodRow.{pod_row};
 ghost use Rattle.objects.specs.Site.{site_of, telling};
-ghost use Rattle.objects.specs.Told.{saying, name_in, name_of, gone, gone_told, gone_if, row_told, scheduler_of, other_scheduler, kept_back, waiting_told, bound_left_out, placed_told, bound_told, node_name, by_node, is_end, has_ended, pod_told, there_told, kind_told, core_kind, has_pod_shape, has_node_shape, kind_by_shape, kind_of, other_told, object_told, object_in, change_of, is_bookmark, value_told, is_space, is_blank, parsed, line_told};
+ghost use Rattle.objects.specs.Told.{saying, name_in, name_of, gone, gone_told, gone_if, row_told, scheduler_of, other_scheduler, kept_back, waiting_told, bound_left_out, placed_told, bound_told, node_name, by_node, has_ended, pod_told, there_told, kind_told, core_kind, has_pod_shape, has_node_shape, kind_by_shape, kind_of, other_told, object_told, object_in, change_of, is_bookmark, value_told, is_space, is_blank, parsed, line_told};
 ghost use Rattle.objects.specs.inside.Answers.{Gives, Answers};
 ghost use Rattle.objects.specs.inside.Telling.{how_told, as_told};
 
 use crate::change::{Change, Kind};
-use crate::demands::{put_affinity, put_demands};
+use crate::demands::{REQUIRED, asks, put_demands};
 use crate::fault::{ObjectFault, Why};
-use crate::left_out::{put_left_out, put_left_out_if, put_refused};
+use crate::left_out::{put_each_if, put_left_out, put_left_out_if, put_refused};
 use crate::node_row::node_row;
 use crate::pod_row::{pod_name, pod_row};
 use crate::reading::{field, name_at, part_of, spelled, text_or, within};
-use crate::request::{Reckoned, put_held_left_out, put_more_left_out, request};
+use crate::request::{Reckoned, is_held_read, put_more_left_out, request};
 use crate::site::{Site, Telling, has_beside};
 use crate::translation::MAX_OBJECT;
 use quant::{Event, Name, SharedNode, SharedPod, Version};
@@ -196,10 +196,11 @@ fn put_other_scheduler(out: &mut Vec<u8>, spec: &Value, scheduler: &str) -> Resu
         ≡ out.old.items ++ other_scheduler scheduler.now (scheduler_of (view spec.now))) }
 {
     let named = scheduler_of(spec);
-    if named != scheduler {
-        put_left_out(out, "it is for the scheduler ", named.as_bytes())?;
+    if named == scheduler {
+        Ok(())
+    } else {
+        put_left_out(out, "it is for the scheduler ", named.as_bytes())
     }
-    Ok(())
 }
 
 // The scheduler that is to place a pod.
@@ -271,13 +272,18 @@ fn put_bound_left_out(
         ≡ out.old.items ++ bound_left_out (view spec.now) (view pod.now)) }
 {
     put_more_left_out(alloc, out, pod, spec)?;
-    put_held_left_out(out, pod, spec)?;
-    put_affinity(
+    put_each_if(
         out,
-        spec,
-        "podAntiAffinity",
-        "requiredDuringSchedulingIgnoredDuringExecution",
-        "required pod anti-affinity",
+        &[
+            (
+                !is_held_read(pod, spec),
+                "what its status says that it holds",
+            ),
+            (
+                asks(spec, "podAntiAffinity", REQUIRED),
+                "required pod anti-affinity",
+            ),
+        ],
     )
 }
 
@@ -285,16 +291,9 @@ fn put_bound_left_out(
 pub(crate) fn has_ended(json: &Value) -> bool
     ensures { result ≡ has_ended (view json.now) }
 {
-    match within(json, "status", "phase") {
-        Some(phase) => is_end(phase),
-        None => false,
-    }
-}
-
-// Whether a phase is one of a pod that has ended.
-fn is_end(phase: &Value) -> bool
-    ensures { result ≡ is_end (as_str (view phase.now)) }
-{
+    let Some(phase) = within(json, "status", "phase") else {
+        return false;
+    };
     match phase.as_str() {
         Some(phase) => phase == "Succeeded" || phase == "Failed",
         None => false,
@@ -420,9 +419,9 @@ pub(crate) fn kind_of(json: &Value) -> Result<Option<Kind>, ObjectFault>
     let Some(value) = field(json, "kind") else {
         return kind_by_shape(json);
     };
-    let kind = value
-        .as_str()
-        .ok_or(ObjectFault::Refused(Why::BadField, "kind"))?;
+    let Some(kind) = value.as_str() else {
+        return Err(ObjectFault::Refused(Why::BadField, "kind"));
+    };
     let version = text_or(json, "apiVersion", "v1")?;
     Ok(core_kind(version, kind))
 }

@@ -1,6 +1,7 @@
 //! The tolerations that a row has of a pod's.
-ghost use Rattle.std.specs.Prelude.{◌≡◌, ◌<◌, codes, length, IfOk, OnSome, option_map};
+ghost use Rattle.std.specs.Prelude.{◌≡◌, ◌<◌, codes, length, IfOk, OnSome, option_map, option_and_then};
 ghost use Rattle.serde_json.specs.View.{view, items_view};
+ghost use Rattle.manifest.specs.Rows.{operator_named, effect_or_none};
 ghost use Rattle.objects.specs.Reading.{spelled};
 ghost use Rattle.objects.specs.Reading.{field};
 ghost use Rattle.objects.specs.Labels.{with_item};
@@ -53,11 +54,27 @@ fn toleration_of(before: &[Toleration], item: &Value) -> Option<Toleration>
     ensures value { result ≡ toleration_of before.now (view item.now) }
     ensures room { OnSome result (length before.now < 16) }
 {
-    let operator = operator_named(text_if(item, "operator")?)?;
-    let effect = effect_or_none(text_if(item, "effect")?)?;
-    let key = text_if(item, "key")?;
-    let value = text_if(item, "value")?;
+    let (Some(operator), Some(effect)) = (operator_of(item), effect_of(item)) else {
+        return None;
+    };
+    let (Some(key), Some(value)) = (text_if(item, "key"), text_if(item, "value")) else {
+        return None;
+    };
     fitting(before, key, operator, value, effect)
+}
+
+// The operator of an item.
+fn operator_of(item: &Value) -> Option<Operator>
+    ensures { result ≡ option_and_then operator_named (text_if (field (codes "operator") (view item.now))) }
+{
+    operator_named(text_if(item, "operator")?)
+}
+
+// The effect of an item, where none stands for every one.
+fn effect_of(item: &Value) -> Option<Option<Effect>>
+    ensures { result ≡ option_and_then effect_or_none (text_if (field (codes "effect") (view item.now))) }
+{
+    effect_or_none(text_if(item, "effect")?)
 }
 
 // The text in a field that may be absent. What is no text gives no toleration, since an empty key
@@ -84,8 +101,12 @@ fn fitting(
         (record { key = key.now; operator = operator; value = value.now; effect = effect }) }
     ensures room { OnSome result (length before.now < 16) }
 {
-    let key = Text::new(key.as_bytes()).ok()?;
-    let value = Text::new(value.as_bytes()).ok()?;
+    let Ok(key) = Text::new(key.as_bytes()) else {
+        return None;
+    };
+    let Ok(value) = Text::new(value.as_bytes()) else {
+        return None;
+    };
     if before.len() < MAX_TOLERATIONS && is_lawful(operator, &key, &value) {
         Some(Toleration {
             key,

@@ -21,4 +21,4 @@ returns-in_err-next-clause-value c =
     let f = λ (before : List Container). container c.args.stands c.args.key.now (items_view c.args.said.now) in
     let row = c.loop-item.row.items in
     rw (c.loop-item.invariant.same ∙ each_begins f c.args.found.now c.loop-item.item-index c.item-item.result row c.loop-item-test.true c.item-item.is)
-    (fault_first _ c.from_residual.result c.in_err-next.field-0.0 (f row (view c.item-item.result)) _ (search rules) c.in_err-next.ensures)
+    (fault_first {Z = List Container} _ c.from_residual.result c.in_err-next.field-0.0 (f row (view c.item-item.result)) _ (search rules) c.in_err-next.ensures)

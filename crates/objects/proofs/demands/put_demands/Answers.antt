@@ -5,4 +5,6 @@ use Rattle.objects.proofs.demands.put_demands.Goals as goal
 
 pub returns : goal.returns
 unfolding demands
-returns c = IfOk-equal c.put_fields.result _ _ _ c.put_fields.ensures (rw (c.in_ok-put_overhead.ensures, c.in_ok-put_list-2.ensures, c.in_ok-put_list.ensures, c.in_ok-put_volumes.ensures, c.in_ok-put_given-2.ensures, c.in_ok-put_given.ensures, c.in_ok-put_placement.ensures) (simp append_assoc))
+returns c =
+    IfOk-equal c.put_fields.result _ _ _ c.put_fields.ensures
+    (rw (c.in_ok-put_members.ensures, c.field.ensures, c.in_ok-put_list-2.ensures, c.in_ok-put_list.ensures, c.in_ok-put_volumes.ensures, c.in_ok-put_placement.ensures) (simp append_assoc))

@@ -1,8 +1,24 @@
-use Rattle.std.proofs.Common.{append_assoc}
-use Rattle.std.proofs.lemmas.Result.{IfOk-equal}
+use Rattle.std.proofs.Common.{append_assoc, append-nil}
 use Rattle.objects.specs.Demands.{placement}
+use Rattle.objects.proofs.Added.{with_last}
 use Rattle.objects.proofs.demands.put_placement.Goals as goal
 
 pub returns : goal.returns
 unfolding placement
-returns c = IfOk-equal c.put_spread.result _ _ _ c.put_spread.ensures (rw (c.in_ok-put_unread_affinity.ensures, c.in_ok-put_affinity-2.ensures, c.in_ok-put_affinity.ensures, c.in_ok-put_node_affinity.ensures, c.in_ok-put_unless_told.ensures) (simp append_assoc))
+returns c =
+    with_last c.put_each_if.result _ _ c.put_each_if.ensures (λ put. rw (
+      put,
+      c.is_untold.ensures,
+      c.field-selector.ensures,
+      c.is_untold-2.ensures,
+      c.affinity-nodes.ensures,
+      c.asks.ensures,
+      c.asks-2.ensures,
+      c.is_read_affinity.ensures,
+      c.field.ensures,
+      c.asks_spread.ensures,
+      c.is_given.ensures,
+      c.field-2.ensures,
+      c.is_given-2.ensures,
+      c.field-3.ensures,
+    ) (simp (append_assoc, append-nil)))

@@ -1,8 +1,16 @@
-use Rattle.std.proofs.Common.{append_assoc}
-use Rattle.std.proofs.lemmas.Result.{IfOk-equal}
+use Rattle.std.proofs.Common.{append_assoc, append-nil}
 use Rattle.objects.specs.Demands.{wishes}
+use Rattle.objects.proofs.Added.{with_last}
 use Rattle.objects.proofs.demands.put_wishes.Goals as goal
 
 pub returns : goal.returns
 unfolding wishes
-returns c = IfOk-equal c.put_spread.result _ _ _ c.put_spread.ensures (rw (c.in_ok-put_affinity-2.ensures, c.in_ok-put_affinity.ensures, c.in_ok-put_node_affinity.ensures) (simp append_assoc))
+returns c =
+    with_last c.put_each_if.result _ _ c.put_each_if.ensures (λ put. rw (
+      put,
+      c.is_untold.ensures,
+      c.affinity-nodes.ensures,
+      c.asks.ensures,
+      c.asks-2.ensures,
+      c.asks_spread.ensures,
+    ) (simp (append_assoc, append-nil)))

@@ -1,7 +1,7 @@
 use Rattle.std.proofs.Common.{◌≡◌, ◌++◌}
 use Rattle.serde_json.specs.View.{members_view}
 use Rattle.objects.specs.Demands.{other_fields}
-use Rattle.objects.proofs.demands.put_other_fields.Given as goal
+use Rattle.objects.proofs.demands.put_fields.Given as goal
 
 abbrev pub invariant-loop-key : goal.invariant-loop-key
 invariant-loop-key l =
