@@ -37,10 +37,6 @@ pub past_run : (n : ℕ) (t : ValueType) (more : List ValueType) (k : ℕ) → n
 past_run n t more k h =
     get_right (replicate n t) more k (omega (arith, length-replicate n t)) ∙ ap (λ m. slice_get more (k - m)) (length-replicate n t)
 
--- the runs from a place on
-pub runs_from : (runs : List LocalRun) (i : ℕ) (d : LocalRun) → i < length runs → locals_of (drop i runs) ≡ replicate (get_or runs i d).count (get_or runs i d).value ++ locals_of (drop (i + 1) runs)
-runs_from runs i d h = ap locals_of (drop-cons runs i d h ∙ ap (λ n. get_or runs i d ∷ drop n runs) (sym (add-one i)))
-
 -- the type of what is imported, if it is a function
 abbrev pub imported_type : List Signature → ImportKind → Option Signature
 imported_type types (imported.Function t) = slice_get types t

@@ -128,12 +128,6 @@ form_drop _ e = absurd cc
 
 -- ---- those with something behind their opcodes
 
-pub form_constant : (f : Form) (t : ValueType) → kinds.Constant t ≡ form_kind f → f ≡ forms.Const t
-form_constant (forms.Plain p) t e = absurd (subst IsPlainKind (sym e) (plain_kinds p))
-form_constant (forms.Indexed i) t e = absurd (subst IsIndexedKind (sym e) (indexed_kinds i))
-form_constant (forms.Const u) t e = cc
-form_constant _ t e = absurd cc
-
 pub form_load : (f : Form) (op : LoadOp) → kinds.Load op ≡ form_kind f → f ≡ forms.Load op
 form_load (forms.Plain p) op e = absurd (subst IsPlainKind (sym e) (plain_kinds p))
 form_load (forms.Indexed i) op e = absurd (subst IsIndexedKind (sym e) (indexed_kinds i))

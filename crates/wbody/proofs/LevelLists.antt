@@ -1,5 +1,5 @@
 -- Lists of open blocks, the innermost last, and what is kept of results.
-use Rattle.std.proofs.Common.{◌≡◌, List, [], ◌∷◌, ◌++◌, ◌-◌, ◌<◌, None, length, Result, Ok, Err, IfOk, OnOk, reverse, refl, sym, ap, ◌∙◌, arith}
+use Rattle.std.proofs.Common.{◌≡◌, List, [], ◌∷◌, ◌++◌, ◌-◌, ◌<◌, None, length, Result, Ok, Err, IfOk, OnOk, Bool, false, is_err, reverse, refl, sym, ap, ◌∙◌, arith}
 use Rattle.std.specs.Prelude.{slice_get}
 use Rattle.std.proofs.lemmas.Option.{slice_get-get_or}
 use Rattle.std.proofs.lemmas.List.{reverse-append}
@@ -20,6 +20,10 @@ on_ok_3 (Err e) p q x f = tt
 pub on_ok_4 : {T E P Q R S U : Type 0} (r : Result T E) → OnOk r P → OnOk r Q → OnOk r R → OnOk r S → (P → Q → R → S → U) → OnOk r U
 on_ok_4 (Ok v) p q x y f = f p q x y
 on_ok_4 (Err e) p q x y f = tt
+
+pub when_ok : {T E P : Type 0} (r : Result T E) (failed : Bool) → failed ≡ is_err r → failed ≡ false → OnOk r P → P
+when_ok (Ok v) failed is e p = p
+when_ok (Err x) failed is e p = absurd (cc)
 
 pub if_ok : {T E : Type 0} {P Q : T → Type 0} (r : Result T E) → IfOk r P → ((v : T) → P v → Q v) → IfOk r Q
 if_ok (Ok v) p f = f v p

@@ -1,4 +1,5 @@
 pub mod Operands
+pub mod Changed
 pub mod Passed
 pub mod Alignment
 pub mod Found

@@ -21,10 +21,6 @@ pub record PassedTo (c : Context) (e : Body) (s : Stack) (after : Operands) : Ty
   pub is : pass c e s ≡ Some behind
   pub fit : fits behind after ≡ true
 
--- one instruction, and then others
-then_typed : (first : Rule) (c : Context) (rest : Body) (s : Stack) (between after : Operands) → Before first s between → Typed c rest between after → (before : Operands) × (fits s before ≡ true) × Then first (Typed c rest) before after
-then_typed first c rest s between after b t = (b.before, b.fit, record { between = between; first = b.typed; others = t })
-
 -- a block was closed: inside it came to its results, and behind it there are those above what was
 -- there before it
 record Closed (t : BlockType) (below inside s : Stack) (after : Operands) : Type 0 where

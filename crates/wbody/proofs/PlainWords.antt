@@ -1,6 +1,7 @@
 -- The words of plain instructions, told by their places, and how the typing goes over them.
 use Rattle.std.proofs.Common.{◌≡◌, ℕ, ◌+◌, ◌<◌, ◌≤◌, Bool, true, false, List, [], ◌∷◌, ◌++◌, Option, Some, None, Result, Ok, Err, IfOk, length, drop, get_or, reverse, vec_len, max, refl, sym, ap, ◌∙◌, subst, arith, length-drop}
 use Rattle.std.specs.Prelude.{◌&&◌, slice_get}
+use Rattle.std.specs.Result.{result_and}
 use Rattle.std.proofs.lemmas.List.{append-nil}
 use Rattle.wcode.specs.declared.value.ValueType.{ValueType}
 use Rattle.wcode.specs.declared.value.ValueType.TheVariants.{I32, I64}
@@ -23,6 +24,7 @@ use Rattle.wbin.specs.Syntax.{locals_of}
 use Rattle.wbody.specs.declared.scope.Level.{Level}
 use Rattle.wbody.specs.declared.scope.Scope.{Scope}
 use Rattle.wbody.specs.declared.stop.Stop.{Stop}
+use Rattle.wbody.specs.declared.stop.Stop.TheVariants as stops
 use Rattle.wbody.specs.declared.operand_stack.OperandStack.{OperandStack}
 use Rattle.wbody.specs.Context.{Context, Operands}
 use Rattle.wbody.specs.Typing.{PlainType, takes_gives, untyped, of_found, only_where, is_in_range, is_aligned, plain_type}
@@ -30,10 +32,10 @@ use Rattle.wbody.specs.Heights.{height_by}
 use Rattle.wbody.specs.Branches.{Branch, Label, plain_branches}
 use Rattle.wbody.specs.inside.Pass.{pass_type}
 use Rattle.wbody.specs.inside.Scope.{IsScope}
-use Rattle.wbody.specs.inside.OperandStack.{stack_of}
+use Rattle.wbody.specs.inside.OperandStack.{stack_of, Changes}
 use Rattle.wbody.specs.inside.Standing.{inner_context}
 use Rattle.wbody.specs.inside.Trail.{Trace}
-use Rattle.wbody.specs.inside.Words.{PlainHere, PlainPasses, PlainTo, PlainStops, Passes, PassesTo, StopsHere}
+use Rattle.wbody.specs.inside.Words.{PlainHere, PlainPasses, PlainTo, PlainStops, OverPlain, Passes, PassesTo, StopsHere, OverWord}
 use Rattle.wbody.proofs.Inside.{scope_inside}
 use Rattle.wbody.proofs.Steps.{plain_step, plain_stop}
 use Rattle.wbody.proofs.NotedMoves.{effect_moves}
@@ -88,12 +90,27 @@ plain_word scope bytes at next levels s n a x =
       adds = (sym (ap (λ l. a.branches ++ l) (h.no_branch a.labels at) ∙ append-nil a.branches), refl, refl);
     }
 
-pub plain_passes : (scope : Scope) (bytes : List ℕ) (at : ℕ) (levels : List Level) (s n : OperandStack) (a : Trace) (r : Result (Option ℕ) Stop) → IfOk r (λ x. PlainTo scope bytes at x s n) → IfOk r (λ x. PassesTo scope bytes at x levels s a levels n a)
+-- what comes of an instruction that stands there is what comes of its operands
+of_operands : (scope : Scope) (bytes : List ℕ) (at next : ℕ) (type : PlainType) (r : Result Unit Stop) (s n : OperandStack) → PlainHere scope bytes at next type → Changes type r s n → OverPlain scope bytes at (result_and r (Ok (Some next))) s n
+of_operands scope bytes at next type (Ok u) s n here x =
+    record { ok = record { type = type; here = here; ok = x.ok; same = x.same; greatest = x.greatest }; err = λ e. absurd (cc) }
+of_operands scope bytes at next type (Err f) s n here x =
+    record { ok = tt; err = λ e. record { next = next; type = type; here = here; stops = (let fault : f ≡ stops.Untyped = cc in x.err (ap (λ y. Err y) fault)) } }
+
+pub over_plain : (scope : Scope) (bytes : List ℕ) (at next : ℕ) (type : PlainType) (r : Result Unit Stop) (z : Result (Option ℕ) Stop) (s n : OperandStack) → PlainHere scope bytes at next type → Changes type r s n → z ≡ result_and r (Ok (Some next)) → OverPlain scope bytes at z s n
+over_plain scope bytes at next type r z s n here x e =
+    subst (λ (y : Result (Option ℕ) Stop). OverPlain scope bytes at y s n) (sym e) (of_operands scope bytes at next type r s n here x)
+
+-- one that may not be there
+pub over_untyped : (scope : Scope) (bytes : List ℕ) (at next : ℕ) (s n : OperandStack) → PlainHere scope bytes at next untyped → OverPlain scope bytes at (Err stops.Untyped) s n
+over_untyped scope bytes at next s n here = record { ok = tt; err = λ e. record { next = next; type = untyped; here = here; stops = refl } }
+
+plain_passes : (scope : Scope) (bytes : List ℕ) (at : ℕ) (levels : List Level) (s n : OperandStack) (a : Trace) (r : Result (Option ℕ) Stop) → IfOk r (λ x. PlainTo scope bytes at x s n) → IfOk r (λ x. PassesTo scope bytes at x levels s a levels n a)
 plain_passes scope bytes at levels s n a (Ok (Some next)) h = plain_word scope bytes at next levels s n a h
 plain_passes scope bytes at levels s n a (Ok None) h = absurd h
 plain_passes scope bytes at levels s n a (Err e) h = tt
 
-pub plain_stops : (scope : Scope) (bytes : List ℕ) (at : ℕ) (levels : List Level) (s : OperandStack) → PlainStops scope bytes at s → StopsHere scope bytes at levels s
+plain_stops : (scope : Scope) (bytes : List ℕ) (at : ℕ) (levels : List Level) (s : OperandStack) → PlainStops scope bytes at s → StopsHere scope bytes at levels s
 plain_stops scope bytes at levels s x =
     let h = x.here in
     record {
@@ -104,6 +121,11 @@ plain_stops scope bytes at levels s x =
           plain_stop c total peak final front more (reverse levels) s h.plain st word
           (λ os layers. ap (λ (t : PlainType). pass_type t (stack_of s)) (h.type_is (inner_context c os) (scope_inside scope c os base.0)) ∙ x.stops);
     }
+
+-- so is what comes of the word, whatever is open and whatever branches there are
+pub plain_over : (scope : Scope) (bytes : List ℕ) (at : ℕ) (levels : List Level) (s n : OperandStack) (a : Trace) (z : Result (Option ℕ) Stop) → OverPlain scope bytes at z s n → OverWord scope bytes at z levels s a levels n a
+plain_over scope bytes at levels s n a z x =
+    record { ok = plain_passes scope bytes at levels s n a z x.ok; err = λ e. plain_stops scope bytes at levels s (x.err e) }
 
 -- what is done only where it may be, and where it may not be
 pub only_true : (b : Bool) (type : PlainType) → b ≡ true → only_where b type ≡ type

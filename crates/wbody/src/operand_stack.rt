@@ -1,11 +1,11 @@
 //! The operands of a body as far as they are known, where its typing stands.
 
-ghost use Rattle.std.specs.Prelude.{false, true, ◌≡◌, ◌≤◌, ◌<◌, ◌+◌, [], ◌∷◌, Some, None, IfOk, OnOk, OnErr, MatchOption, MatchResult, vec_len, length, reverse, take, drop, max};
-ghost use Rattle.wbody.specs.Context.{results_of};
-ghost use Rattle.wbody.specs.inside.Pass.{may_be, fits, closed, fresh, unreached, taken, given, drop_top, join_top, pass_type};
+ghost use Rattle.std.specs.Prelude.{false, true, ◌≡◌, ◌≤◌, ◌<◌, ◌+◌, [], ◌∷◌, ◌++◌, Some, None, IfSome, OnOk, vec_len, length, reverse, take, drop, max};
+ghost use Rattle.wbody.specs.Context.{at_most_one, results_of};
+ghost use Rattle.wbody.specs.inside.Pass.{may_be, fits, closed, common, fresh, unreached, drop_top};
 
 use crate::stop::Stop;
-use std::alloc::{AllocError, Global};
+use std::alloc::Global;
 use wcode::{BlockType, ValueType};
 
 // The operands' types, the last one on top, none where one may be of any type. Those from the floor
@@ -31,12 +31,19 @@ fn may_be_of(t: ValueType, operand: Option<ValueType>) -> bool
     }
 }
 
-// There is no such operand.
-#[derive(Clone, Copy)]
-pub struct Missing;
+// What is known of an operand that is both, if there can be one.
+fn common_of(first: Option<ValueType>, second: Option<ValueType>) -> Option<Option<ValueType>>
+    ensures { result ≡ common first second }
+{
+    match (first, second) {
+        (None, other) => Some(other),
+        (Some(t), None) => Some(Some(t)),
+        (Some(t), Some(other)) => { if t == other { Some(Some(t)) } else { None } }
+    }
+}
 
 impl OperandStack {
-    ghost use Rattle.wbody.specs.inside.OperandStack.{stack_of, below_of, SameBlock, top_of, pushed};
+    ghost use Rattle.wbody.specs.inside.OperandStack.{stack_of, below_of, SameBlock, top_of, Takes, Gives};
 
     // The height at which the innermost block began.
     pub fn floor(&self) -> usize
@@ -80,37 +87,31 @@ impl OperandStack {
         }
     }
 
-    // Takes off the topmost operand, whatever its type.
-    pub fn take_any(&mut self) -> Result<Option<ValueType>, Missing>
-        ensures ok { OnOk result (drop_top (stack_of self.old).operands (stack_of self.old).reached
+    // Takes off the topmost operand, whatever its type, if there can be one.
+    pub fn take_any(&mut self) -> Option<Option<ValueType>>
+        ensures taken { IfSome result (λ x. drop_top (stack_of self.old).operands (stack_of self.old).reached
             ≡ Some (stack_of self.new)) }
-        ensures top { IfOk result (λ x. x ≡ top_of (stack_of self.old).operands) }
-        ensures err { OnErr result (drop_top (stack_of self.old).operands (stack_of self.old).reached ≡ None) }
-        ensures same { OnOk result (SameBlock self.old self.new) }
+        ensures top { IfSome result (λ x. x ≡ top_of (stack_of self.old).operands) }
+        ensures missing { result ≡ None → drop_top (stack_of self.old).operands (stack_of self.old).reached ≡ None }
+        ensures same { IfSome result (λ x. SameBlock self.old self.new) }
         ensures greatest { self.new.greatest ≡ self.old.greatest }
     {
         if self.items.len() > self.floor {
-            match self.items.pop() {
-                Some(top) => Ok(top),
-                None => Err(Missing),
-            }
+            self.items.pop()
         } else if self.reached {
-            Err(Missing)
+            None
         } else {
-            Ok(None)
+            Some(None)
         }
     }
 
-    // Takes off the topmost operand, which is of this type.
-    pub fn take(&mut self, wanted: ValueType) -> Result<(), Missing>
-        ensures ok { OnOk result (taken (wanted ∷ []) (stack_of self.old) ≡ Some (stack_of self.new)) }
-        ensures err { OnErr result (taken (wanted ∷ []) (stack_of self.old) ≡ None) }
-        ensures same { OnOk result (SameBlock self.old self.new) }
-        ensures greatest { self.new.greatest ≡ self.old.greatest }
+    // Takes off the topmost operand, if it can be of this type.
+    pub fn take(&mut self, wanted: ValueType) -> bool
+        ensures { Takes (wanted ∷ []) result self.old self.new }
     {
-        match self.take_any()? {
-            None => Ok(()),
-            Some(top) => { if top == wanted { Ok(()) } else { Err(Missing) } }
+        match self.take_any() {
+            Some(operand) => may_be_of(wanted, operand),
+            None => false,
         }
     }
 
@@ -121,49 +122,40 @@ impl OperandStack {
         !self.reached && self.items.len() == self.floor
     }
 
-    // Takes off operands of these types, the last one topmost.
-    pub fn take_all(&mut self, types: &[ValueType]) -> Result<(), Missing>
-        ensures ok { OnOk result (taken (reverse types.now) (stack_of self.old) ≡ Some (stack_of self.new)) }
-        ensures err { OnErr result (taken (reverse types.now) (stack_of self.old) ≡ None) }
-        ensures same { OnOk result (SameBlock self.old self.new) }
-        ensures greatest { self.new.greatest ≡ self.old.greatest }
+    // Takes off operands of these types, the last one topmost, if they can be there.
+    pub fn take_all(&mut self, types: &[ValueType]) -> bool
+        ensures { Takes (reverse types.now) result self.old self.new }
     {
         let mut left = types.len();
         'types: while left > 0 {
             // Each step takes an operand off, so that all of them in a body are no more than its
             // operands.
             if self.has_any() {
-                return Ok(());
+                return true;
             }
             left -= 1;
-            self.take(types[left])?;
+            if !self.take(types[left]) {
+                return false;
+            }
         }
-        Ok(())
+        true
     }
 
-    // Takes off two operands of one type and gives back one.
-    pub fn join(&mut self) -> Result<(), Stop>
-        ensures ok { OnOk result (join_top (stack_of self.old).operands (stack_of self.old).reached
-            ≡ Some (stack_of self.new)) }
-        ensures err { result ≡ Err Stop.Untyped → join_top (stack_of self.old).operands (stack_of self.old).reached
-            ≡ None }
-        ensures same { OnOk result (SameBlock self.old self.new) }
-        ensures greatest { OnOk result (self.new.greatest ≡ max self.old.greatest (vec_len self.new.items)) }
+    // Takes off an operand of the first type, and below it one of the second, if they can be there.
+    fn take_pair(&mut self, above: ValueType, below: ValueType) -> bool
+        ensures { Takes (above ∷ below ∷ []) result self.old self.new }
     {
-        let first = self.take_any()?;
-        let second = self.take_any()?;
-        let both = match (first, second) {
-            (None, other) => other,
-            (Some(t), None) => Some(t),
-            (Some(t), Some(other)) => {
-                if t != other {
-                    return Err(Stop::Untyped);
-                }
-                Some(t)
-            }
-        };
-        self.give(both)?;
-        Ok(())
+        self.take(above) && self.take(below)
+    }
+
+    // Takes off such an operand, if one is wanted and can be there.
+    fn take_at_most_one(&mut self, wanted: Option<ValueType>) -> bool
+        ensures { Takes (at_most_one wanted) result self.old self.new }
+    {
+        match wanted {
+            None => true,
+            Some(t) => self.take(t),
+        }
     }
 
     // What comes isn't reached.
@@ -204,23 +196,15 @@ impl OperandStack {
         }
     }
 
-    // At the start of the second arm of an `if` of this type, whose first arm left just the
-    // results.
-    pub fn restart(&mut self, block_type: BlockType) -> Result<(), Stop>
-        ensures ok { OnOk result (fits (stack_of self.old) (results_of block_type) ≡ true) }
-        ensures err { OnErr result (fits (stack_of self.old) (results_of block_type) ≡ false) }
-        ensures untyped { OnErr result (result ≡ Err Stop.Untyped) }
-        ensures stack { OnOk result (stack_of self.new ≡ fresh) }
-        ensures same { OnOk result (SameBlock self.old self.new) }
-        ensures len { OnOk result (length self.new.items.items ≡ self.new.floor) }
-        ensures greatest { OnOk result (self.new.greatest ≡ self.old.greatest) }
+    // At the start of the second arm of an `if`.
+    pub fn restart(&mut self)
+        ensures stack { stack_of self.new ≡ fresh }
+        ensures same { SameBlock self.old self.new }
+        ensures len { length self.new.items.items ≡ self.new.floor }
+        ensures greatest { self.new.greatest ≡ self.old.greatest }
     {
-        if !self.has_results(block_type) {
-            return Err(Stop::Untyped);
-        }
         self.items.truncate(self.floor);
         self.reached = true;
-        Ok(())
     }
 
     // Behind a block of this type, to the block that began at this height: there are just the
@@ -245,21 +229,17 @@ impl OperandStack {
         self.reached = reached;
         match block_type {
             BlockType::Empty => Ok(()),
-            BlockType::Result(t) => {
-                self.give(Some(t))?;
-                Ok(())
-            }
+            BlockType::Result(t) => self.give(Some(t)),
         }
     }
 
     // Puts an operand on top.
-    pub fn give(&mut self, operand: Option<ValueType>) -> Result<(), AllocError>
-        ensures ok { OnOk result (stack_of self.new ≡ pushed operand (stack_of self.old)) }
-        ensures same { OnOk result (SameBlock self.old self.new) }
-        ensures greatest { OnOk result (self.new.greatest ≡ max self.old.greatest (vec_len self.old.items + 1)) }
-        ensures len { OnOk result (vec_len self.new.items ≡ vec_len self.old.items + 1) }
+    fn give(&mut self, operand: Option<ValueType>) -> Result<(), Stop>
+        ensures { Gives operand result self.old self.new }
     {
-        self.items.push(operand)?;
+        if self.items.push(operand).is_err() {
+            return Err(Stop::NoMemory);
+        }
         self.greatest = self.greatest.max(self.items.len());
         Ok(())
     }
@@ -268,88 +248,71 @@ impl OperandStack {
 // What the most common instructions do.
 impl OperandStack {
     ghost use Rattle.wbody.specs.Typing.{takes_gives, drops};
-    ghost use Rattle.wbody.specs.inside.OperandStack.{stack_of, SameBlock};
+    ghost use Rattle.wbody.specs.inside.OperandStack.{Changes};
 
     // Takes one operand of this type, and gives one of that.
     #[inline(always)]
     pub fn change_one(&mut self, t: ValueType, gives: ValueType) -> Result<(), Stop>
-        ensures ok { OnOk result (pass_type (takes_gives (t ∷ []) (gives ∷ []))
-            (stack_of self.old) ≡ Some (stack_of self.new)) }
-        ensures err { result ≡ Err Stop.Untyped → pass_type (takes_gives (t ∷ []) (gives ∷ []))
-            (stack_of self.old) ≡ None }
-        ensures same { OnOk result (SameBlock self.old self.new) }
-        ensures greatest { OnOk result (self.new.greatest ≡ max self.old.greatest (vec_len self.new.items)) }
+        ensures { Changes (takes_gives (t ∷ []) (gives ∷ [])) result self.old self.new }
     {
-        self.take(t)?;
-        self.give(Some(gives))?;
-        Ok(())
+        if !self.take(t) {
+            return Err(Stop::Untyped);
+        }
+        self.give(Some(gives))
     }
 
     // Takes two operands of this type, and gives one of that.
     #[inline(always)]
     pub fn change_two(&mut self, t: ValueType, gives: ValueType) -> Result<(), Stop>
-        ensures ok { OnOk result (pass_type (takes_gives (t ∷ t ∷ []) (gives ∷ []))
-            (stack_of self.old) ≡ Some (stack_of self.new)) }
-        ensures err { result ≡ Err Stop.Untyped → pass_type (takes_gives (t ∷ t ∷ []) (gives ∷ []))
-            (stack_of self.old) ≡ None }
-        ensures same { OnOk result (SameBlock self.old self.new) }
-        ensures greatest { OnOk result (self.new.greatest ≡ max self.old.greatest (vec_len self.new.items)) }
+        ensures { Changes (takes_gives (t ∷ t ∷ []) (gives ∷ [])) result self.old self.new }
     {
-        self.take(t)?;
-        self.take(t)?;
-        self.give(Some(gives))?;
-        Ok(())
+        if !self.take_pair(t, t) {
+            return Err(Stop::Untyped);
+        }
+        self.give(Some(gives))
     }
 
     // Takes one operand of this type.
     #[inline(always)]
     pub fn take_one(&mut self, t: ValueType) -> Result<(), Stop>
-        ensures ok { OnOk result (pass_type (takes_gives (t ∷ []) []) (stack_of self.old) ≡ Some (stack_of self.new)) }
-        ensures err { result ≡ Err Stop.Untyped → pass_type (takes_gives (t ∷ []) []) (stack_of self.old) ≡ None }
-        ensures same { OnOk result (SameBlock self.old self.new) }
-        ensures greatest { OnOk result (self.new.greatest ≡ max self.old.greatest (vec_len self.new.items)) }
+        ensures { Changes (takes_gives (t ∷ []) []) result self.old self.new }
     {
-        self.take(t)?;
-        Ok(())
+        if self.take(t) {
+            Ok(())
+        } else {
+            Err(Stop::Untyped)
+        }
     }
 
     // Takes an operand of the first type, and below it one of the second.
     #[inline(always)]
     pub fn take_two(&mut self, above: ValueType, below: ValueType) -> Result<(), Stop>
-        ensures ok { OnOk result (pass_type (takes_gives (above ∷ below ∷ []) [])
-            (stack_of self.old) ≡ Some (stack_of self.new)) }
-        ensures err { result ≡ Err Stop.Untyped → pass_type (takes_gives (above ∷ below ∷ []) [])
-            (stack_of self.old) ≡ None }
-        ensures same { OnOk result (SameBlock self.old self.new) }
-        ensures greatest { OnOk result (self.new.greatest ≡ max self.old.greatest (vec_len self.new.items)) }
+        ensures { Changes (takes_gives (above ∷ below ∷ []) []) result self.old self.new }
     {
-        self.take(above)?;
-        self.take(below)?;
-        Ok(())
+        if self.take_pair(above, below) {
+            Ok(())
+        } else {
+            Err(Stop::Untyped)
+        }
     }
 
     // Gives an operand of this type.
     #[inline(always)]
     pub fn put(&mut self, t: ValueType) -> Result<(), Stop>
-        ensures ok { OnOk result (pass_type (takes_gives [] (t ∷ [])) (stack_of self.old) ≡ Some (stack_of self.new)) }
-        ensures err { result ≡ Err Stop.Untyped → ⊥ }
-        ensures same { OnOk result (SameBlock self.old self.new) }
-        ensures greatest { OnOk result (self.new.greatest ≡ max self.old.greatest (vec_len self.new.items)) }
+        ensures { Changes (takes_gives [] (t ∷ [])) result self.old self.new }
     {
-        self.give(Some(t))?;
-        Ok(())
+        self.give(Some(t))
     }
 
     // Takes one operand of any type.
     #[inline(always)]
     pub fn drop_one(&mut self) -> Result<(), Stop>
-        ensures ok { OnOk result (pass_type drops (stack_of self.old) ≡ Some (stack_of self.new)) }
-        ensures err { result ≡ Err Stop.Untyped → pass_type drops (stack_of self.old) ≡ None }
-        ensures same { OnOk result (SameBlock self.old self.new) }
-        ensures greatest { OnOk result (self.new.greatest ≡ max self.old.greatest (vec_len self.new.items)) }
+        ensures { Changes drops result self.old self.new }
     {
-        self.take_any()?;
-        Ok(())
+        match self.take_any() {
+            Some(_) => Ok(()),
+            None => Err(Stop::Untyped),
+        }
     }
 }
 
@@ -372,45 +335,76 @@ pub enum Effect<'a> {
 }
 
 impl OperandStack {
+    ghost use Rattle.wbody.specs.Typing.{takes_gives, selects, ends};
     ghost use Rattle.wbody.specs.inside.Effect.{effect_type};
-    ghost use Rattle.wbody.specs.inside.OperandStack.{stack_of, SameBlock};
+    ghost use Rattle.wbody.specs.inside.OperandStack.{Changes};
 
     // Behind an instruction that does this.
     pub fn apply(&mut self, effect: Effect<'_>) -> Result<(), Stop>
-        ensures ok { OnOk result (pass_type (effect_type effect.entry) (stack_of self.old) ≡ Some (stack_of self.new)) }
-        ensures err { result ≡ Err Stop.Untyped → pass_type (effect_type effect.entry) (stack_of self.old) ≡ None }
-        ensures same { OnOk result (SameBlock self.old self.new) }
-        ensures greatest { OnOk result (self.new.greatest ≡ max self.old.greatest (vec_len self.new.items)) }
+        ensures { Changes (effect_type effect.entry) result self.old self.new }
     {
         match effect {
             Effect::Moves {
                 above,
                 types,
                 gives,
-            } => {
-                if let Some(t) = above {
-                    self.take(t)?;
-                }
-                self.take_all(types)?;
-                if let Some(t) = gives {
-                    self.give(Some(t))?;
-                }
-                Ok(())
-            }
-            Effect::Drops => {
-                self.take_any()?;
-                Ok(())
-            }
-            Effect::Selects => {
-                self.take(ValueType::I32)?;
-                self.join()
-            }
-            Effect::Ends { types } => {
-                self.take_all(types)?;
-                self.cut();
-                Ok(())
-            }
+            } => self.change(above, types, gives),
+            Effect::Drops => self.drop_one(),
+            Effect::Selects => self.select(),
+            Effect::Ends { types } => self.end(types),
             Effect::Untyped => Err(Stop::Untyped),
         }
+    }
+
+    // Takes what is above and below it these types, the last one topmost; gives what it gives.
+    fn change(
+        &mut self,
+        above: Option<ValueType>,
+        types: &[ValueType],
+        gives: Option<ValueType>,
+    ) -> Result<(), Stop>
+        ensures { Changes (takes_gives (at_most_one above ++ reverse types.now) (at_most_one gives)) result self.old
+            self.new }
+    {
+        if !self.take_at_most_one(above) {
+            return Err(Stop::Untyped);
+        }
+        if !self.take_all(types) {
+            return Err(Stop::Untyped);
+        }
+        match gives {
+            None => Ok(()),
+            Some(t) => self.give(Some(t)),
+        }
+    }
+
+    // Takes an operand that selects, and below it two of one type, and gives back one of these.
+    fn select(&mut self) -> Result<(), Stop>
+        ensures { Changes selects result self.old self.new }
+    {
+        if !self.take(ValueType::I32) {
+            return Err(Stop::Untyped);
+        }
+        let Some(first) = self.take_any() else {
+            return Err(Stop::Untyped);
+        };
+        let Some(second) = self.take_any() else {
+            return Err(Stop::Untyped);
+        };
+        let Some(both) = common_of(first, second) else {
+            return Err(Stop::Untyped);
+        };
+        self.give(both)
+    }
+
+    // Takes these, the last one topmost. Nothing behind it is reached.
+    fn end(&mut self, types: &[ValueType]) -> Result<(), Stop>
+        ensures { Changes (ends (reverse types.now)) result self.old self.new }
+    {
+        if !self.take_all(types) {
+            return Err(Stop::Untyped);
+        }
+        self.cut();
+        Ok(())
     }
 }

@@ -1,13 +1,12 @@
 //! How the typing of a body goes over one word of its bytes.
 
 ghost use Rattle.wbody.specs.declared.scope.Scope.{Scope as TheScope};
-ghost use Rattle.std.specs.Prelude.{◌≡◌, ◌≤◌, [], ◌∷◌, ◌++◌, List, MatchBool, OnOk};
-ghost use Rattle.wcode.specs.Grammar.{Word, one, opens, otherwise, end};
+ghost use Rattle.std.specs.Prelude.{◌≡◌, ℕ, ◌≤◌, [], ◌∷◌, ◌++◌, List, MatchBool, OnOk};
+ghost use Rattle.wcode.specs.Grammar.{Word};
 ghost use Rattle.wcode.specs.Shown.{Shows};
 ghost use Rattle.wcode.specs.declared.instruction.Op.TheVariants as ops;
-ghost use Rattle.wcode.specs.declared.opcode.Opening.TheVariants as openings;
-ghost use Rattle.wbody.specs.inside.Steps.{GoesOver, StopsAt, Enters};
-ghost use Rattle.wbody.specs.inside.Trail.{Moves};
+ghost use Rattle.wbody.specs.inside.Steps.{Enters};
+ghost use Rattle.wbody.specs.inside.Words.{OverInner};
 ghost use Rattle.wbody.specs.declared.scope.Opened.TheVariants as opened;
 ghost use Rattle.wcode.specs.declared.value.BlockType.TheVariants as blocks;
 ghost use Rattle.wcode.specs.declared.value.ValueType.{ValueType as TheType};
@@ -27,9 +26,8 @@ pub fn pass_plain(
     scope: &Scope<'_>,
     plain: Plain,
 ) -> Result<(), Stop>
-    ensures ok { OnOk result (GoesOver scope.now (one plain) levels.now stack.old levels.now stack.new) }
-    ensures moves { OnOk result (Moves scope.now (ops.Plain plain) levels.now stack.old levels.now stack.new) }
-    ensures err { result ≡ Err Stop.Untyped → StopsAt scope.now (one plain) levels.now stack.old }
+    ensures { (bytes : List ℕ) → OverInner scope.now bytes (ops.Plain plain) result levels.now stack.old levels.now
+        stack.new }
 {
     stack.apply(effect_of(scope, levels, plain))
 }
@@ -44,12 +42,8 @@ pub fn pass_table(
     labels_at: usize,
 ) -> Result<(), Stop>
     requires { (w : Word) × Shows bytes.now (ops.BrTable count labels_at) w }
-    ensures ok { OnOk result ((w : Word) → Shows bytes.now (ops.BrTable count labels_at) w →
-        GoesOver scope.now w levels.now stack.old levels.now stack.new) }
-    ensures moves { OnOk result (Moves scope.now (ops.BrTable count labels_at) levels.now stack.old levels.now
-        stack.new) }
-    ensures err { result ≡ Err Stop.Untyped → (w : Word) → Shows bytes.now (ops.BrTable count labels_at) w →
-        StopsAt scope.now w levels.now stack.old }
+    ensures { OverInner scope.now bytes.now (ops.BrTable count labels_at) result levels.now stack.old levels.now
+        stack.new }
 {
     stack.apply(table_effect(scope, levels, bytes, count, labels_at))
 }
@@ -83,11 +77,8 @@ pub fn pass_block(
     levels: &mut SmallVec<Level, 16>,
     block_type: BlockType,
 ) -> Result<(), Stop>
-    ensures ok { OnOk result ((scope : TheScope) → GoesOver scope (opens openings.Block block_type) levels.old.items
-        stack.old levels.new.items stack.new) }
-    ensures moves { OnOk result ((scope : TheScope) → Moves scope (ops.Block block_type) levels.old.items stack.old
-        levels.new.items stack.new) }
-    ensures err { result ≡ Err Stop.Untyped → ⊥ }
+    ensures { (scope : TheScope) (bytes : List ℕ) → OverInner scope bytes (ops.Block block_type) result levels.old.items
+        stack.old levels.new.items stack.new }
 {
     enter(stack, levels, Opened::Block, block_type)
 }
@@ -97,11 +88,8 @@ pub fn pass_loop(
     levels: &mut SmallVec<Level, 16>,
     block_type: BlockType,
 ) -> Result<(), Stop>
-    ensures ok { OnOk result ((scope : TheScope) → GoesOver scope (opens openings.Loop block_type) levels.old.items
-        stack.old levels.new.items stack.new) }
-    ensures moves { OnOk result ((scope : TheScope) → Moves scope (ops.Loop block_type) levels.old.items stack.old
-        levels.new.items stack.new) }
-    ensures err { result ≡ Err Stop.Untyped → ⊥ }
+    ensures { (scope : TheScope) (bytes : List ℕ) → OverInner scope bytes (ops.Loop block_type) result levels.old.items
+        stack.old levels.new.items stack.new }
 {
     enter(stack, levels, Opened::Loop, block_type)
 }
@@ -112,29 +100,27 @@ pub fn pass_if(
     levels: &mut SmallVec<Level, 16>,
     block_type: BlockType,
 ) -> Result<(), Stop>
-    ensures ok { OnOk result ((scope : TheScope) → GoesOver scope (opens openings.If block_type) levels.old.items
-        stack.old levels.new.items stack.new) }
-    ensures moves { OnOk result ((scope : TheScope) → Moves scope (ops.If block_type) levels.old.items stack.old
-        levels.new.items stack.new) }
-    ensures err { result ≡ Err Stop.Untyped → (scope : TheScope) →
-        StopsAt scope (opens openings.If block_type) levels.old.items stack.old }
+    ensures { (scope : TheScope) (bytes : List ℕ) → OverInner scope bytes (ops.If block_type) result levels.old.items
+        stack.old levels.new.items stack.new }
 {
-    stack.take(ValueType::I32)?;
+    if !stack.take(ValueType::I32) {
+        return Err(Stop::Untyped);
+    }
     enter(stack, levels, Opened::First, block_type)
 }
 
 // Over an `else`, inside the first arm of an `if`.
 pub fn pass_else(stack: &mut OperandStack, levels: &mut SmallVec<Level, 16>) -> Result<(), Stop>
-    ensures ok { OnOk result ((scope : TheScope) → GoesOver scope otherwise levels.old.items stack.old levels.new.items
-        stack.new) }
-    ensures moves { OnOk result ((scope : TheScope) → Moves scope ops.Else levels.old.items stack.old levels.new.items
-        stack.new) }
-    ensures err { result ≡ Err Stop.Untyped → (scope : TheScope) → StopsAt scope otherwise levels.old.items stack.old }
+    ensures { (scope : TheScope) (bytes : List ℕ) → OverInner scope bytes ops.Else result levels.old.items stack.old
+        levels.new.items stack.new }
 {
     let Some(level) = levels.pop() else {
         return Err(Stop::Untyped);
     };
-    stack.restart(level.block_type)?;
+    if !stack.has_results(level.block_type) {
+        return Err(Stop::Untyped);
+    }
+    stack.restart();
     let second = Level {
         kind: Opened::Second,
         block_type: level.block_type,
@@ -165,12 +151,8 @@ fn lacks_else(level: Level) -> bool
 // Over the `end` of a block.
 pub fn pass_end(stack: &mut OperandStack, level: Level) -> Result<(), Stop>
     requires { level.floor ≤ stack.old.floor }
-    ensures ok { OnOk result ((scope : TheScope) → (levels : List Level) →
-        GoesOver scope end (levels ++ level ∷ []) stack.old levels stack.new) }
-    ensures moves { OnOk result ((scope : TheScope) → (levels : List Level) →
-        Moves scope ops.End (levels ++ level ∷ []) stack.old levels stack.new) }
-    ensures err { result ≡ Err Stop.Untyped → (scope : TheScope) → (levels : List Level) →
-        StopsAt scope end (levels ++ level ∷ []) stack.old }
+    ensures { (scope : TheScope) (bytes : List ℕ) (levels : List Level) →
+        OverInner scope bytes ops.End result (levels ++ level ∷ []) stack.old levels stack.new }
 {
     if lacks_else(level) {
         return Err(Stop::Untyped);

@@ -1,8 +1,12 @@
 -- What the code's operands are seen as.
-use Rattle.std.specs.Prelude.{◌≡◌, List, [], ◌∷◌, Option, None, reverse, take, drop}
+use Rattle.std.specs.Prelude.{◌≡◌, ◌+◌, List, [], ◌∷◌, Bool, true, false, Option, Some, None, Result, Err, OnOk, reverse, take, drop, max, vec_len}
 use Rattle.wcode.specs.declared.value.ValueType.{ValueType}
 use Rattle.wbody.specs.declared.operand_stack.OperandStack.{OperandStack}
-use Rattle.wbody.specs.inside.Pass.{Stack}
+use Rattle.wbody.specs.declared.stop.Stop.{Stop}
+use Rattle.wbody.specs.declared.stop.Stop.TheVariants as stops
+use Rattle.wbody.specs.Context.{Operands}
+use Rattle.wbody.specs.Typing.{PlainType}
+use Rattle.wbody.specs.inside.Pass.{Stack, taken, pass_type}
 
 -- those of the innermost block
 abbrev pub stack_of : OperandStack → Stack
@@ -25,3 +29,26 @@ top_of (x ∷ xs) = x
 -- one more operand
 abbrev pub pushed : Option ValueType → Stack → Stack
 pushed x s = record { operands = x ∷ s.operands; reached = s.reached }
+
+-- operands of these types were taken off the top, or there can be none
+pub record Takes (types : Operands) (did : Bool) (old new : OperandStack) : Type 0 where
+  pub done : did ≡ true → taken types (stack_of old) ≡ Some (stack_of new)
+  pub missing : did ≡ false → taken types (stack_of old) ≡ None
+  pub same : did ≡ true → SameBlock old new
+  pub greatest : new.greatest ≡ old.greatest
+
+-- such an operand was put on top, or memory ran out
+pub record Gives (x : Option ValueType) (result : Result Unit Stop) (old new : OperandStack) : Type 0 where
+  pub ok : OnOk result (stack_of new ≡ pushed x (stack_of old))
+  pub typed : result ≡ Err stops.Untyped → ⊥
+  pub same : OnOk result (SameBlock old new)
+  pub len : OnOk result (vec_len new.items ≡ vec_len old.items + 1)
+  pub greatest : OnOk result (new.greatest ≡ max old.greatest (vec_len new.items))
+
+-- The operands are those behind an instruction of this type; or it has no typing there, or memory
+-- ran out.
+pub record Changes (type : PlainType) (result : Result Unit Stop) (old new : OperandStack) : Type 0 where
+  pub ok : OnOk result (pass_type type (stack_of old) ≡ Some (stack_of new))
+  pub err : result ≡ Err stops.Untyped → pass_type type (stack_of old) ≡ None
+  pub same : OnOk result (SameBlock old new)
+  pub greatest : OnOk result (new.greatest ≡ max old.greatest (vec_len new.items))

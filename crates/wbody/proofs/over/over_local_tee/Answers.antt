@@ -1,43 +1,20 @@
-use Rattle.std.proofs.Common.{Some, None, slice_index, refl, sym}
-use Rattle.std.proofs.lemmas.Result.{err_from_is_err_and}
-use Rattle.wbody.specs.Typing.{untyped}
-use Rattle.wbody.proofs.LevelLists.{stop_kept}
+use Rattle.std.proofs.Common.{Some, None, slice_index}
 use Rattle.wbody.proofs.KindForms.{form_tee}
-use Rattle.wbody.proofs.PlainWords.{tee_type, tee_here}
+use Rattle.wbody.proofs.PlainWords.{tee_type, tee_here, over_plain, over_untyped}
 use Rattle.wbody.proofs.over.over_local_tee.Goals as goal
 
 pub index_at-x-requires-clause-known : goal.index_at-x-requires-clause-known
 index_at-x-requires-clause-known c = form_tee _ c.requires.known
 
-pub returns-clause-ok : goal.returns-clause-ok
-returns-clause-ok c =
+pub returns : goal.returns
+returns c =
     let i = c.index_at-x in
-    let a = c.in_ok-change_one.ensures in
-    record {
-      type = tee_type (Some c.in-Some.t);
-      here = tee_here c.args.scope.now c.args.bytes.now c.args.at i.result.1 i.result.0 (Some c.in-Some.t) i.ensures.word i.ensures.end.0 i.ensures.end.1 c.in-Some.ensures;
-      ok = a.ok;
-      same = a.same;
-      greatest = a.greatest;
-    }
+    over_plain c.args.scope.now c.args.bytes.now c.args.at i.result.1 (tee_type (Some c.in-Some.t)) c.change_one.result c.and.result c.args.stack.now c.change_one.new.self
+    (tee_here c.args.scope.now c.args.bytes.now c.args.at i.result.1 i.result.0 (Some c.in-Some.t) i.ensures.word i.ensures.end.0 i.ensures.end.1 c.in-Some.ensures)
+    c.change_one.ensures c.and.ensures
 
-pub returns-in_default-clause-err : goal.returns-in_default-clause-err
-returns-in_default-clause-err c e =
+pub returns-in_default : goal.returns-in_default
+returns-in_default c =
     let i = c.index_at-x in
-    record {
-      next = i.result.1;
-      type = untyped;
-      here = tee_here c.args.scope.now c.args.bytes.now c.args.at i.result.1 i.result.0 None i.ensures.word i.ensures.end.0 i.ensures.end.1 c.in_default.ensures;
-      stops = refl;
-    }
-
-pub returns-in_err-change_one-clause-err : goal.returns-in_err-change_one-clause-err
-returns-in_err-change_one-clause-err c e =
-    let i = c.index_at-x in
-    let q = err_from_is_err_and c.from_residual.result c.from_residual.ensures.1 in
-    record {
-      next = i.result.1;
-      type = tee_type (Some c.in-Some.t);
-      here = tee_here c.args.scope.now c.args.bytes.now c.args.at i.result.1 i.result.0 (Some c.in-Some.t) i.ensures.word i.ensures.end.0 i.ensures.end.1 c.in-Some.ensures;
-      stops = c.change_one.ensures.err (stop_kept c.from_residual.result c.change_one.result c.in_err-change_one.field-0.0 q.0 e q.1 q.2 c.in_err-change_one.was);
-    }
+    over_untyped c.args.scope.now c.args.bytes.now c.args.at i.result.1 c.args.stack.now c.args.stack.now
+    (tee_here c.args.scope.now c.args.bytes.now c.args.at i.result.1 i.result.0 None i.ensures.word i.ensures.end.0 i.ensures.end.1 c.in_default.ensures)

@@ -1,53 +1,31 @@
-use Rattle.std.proofs.Common.{◌≡◌, true, false, [], ◌∷◌, refl, sym, ap, ◌∙◌, subst}
+use Rattle.std.proofs.Common.{◌≡◌, true, false, [], ◌∷◌, sym, ap, ◌∙◌, subst}
 use Rattle.std.specs.Prelude.{◌&&◌}
-use Rattle.std.proofs.lemmas.Result.{err_from_is_err_and}
 use Rattle.wcode.specs.declared.value.ValueType.{ValueType}
 use Rattle.wcode.specs.declared.value.ValueType.TheVariants.{I32}
 use Rattle.wcode.specs.Operators.{store_type, store_bytes}
-use Rattle.wbody.specs.Typing.{takes_gives, untyped, is_aligned}
+use Rattle.wbody.specs.Typing.{takes_gives, is_aligned}
 use Rattle.wbody.specs.inside.Words.{PlainHere}
-use Rattle.wbody.proofs.LevelLists.{stop_kept}
 use Rattle.wbody.proofs.KindForms.{form_store}
-use Rattle.wbody.proofs.PlainWords.{store_here, here_true, here_false}
+use Rattle.wbody.proofs.PlainWords.{store_here, here_true, here_false, over_plain, over_untyped}
 use Rattle.wbody.proofs.over.over_store.Goals as goal
 
 pub store_at-next-requires-clause-known : goal.store_at-next-requires-clause-known
 store_at-next-requires-clause-known c = form_store _ c.args.op c.requires.known
 
-pub returns-clause-ok : goal.returns-clause-ok
-returns-clause-ok c =
+pub returns : goal.returns
+returns c =
     let i = c.store_at-next in
-    let yes : (c.args.scope.now.has_memory && is_aligned i.result.0 (store_bytes c.args.op)) ≡ true = ap (λ n. c.args.scope.now.has_memory && is_aligned i.result.0 n) (sym c.bytes.ensures) ∙ sym c.may_access.ensures ∙ c.if-not-may_access.false in
-    let a = c.in_ok-take_two.ensures in
-    record {
-      type = takes_gives (c.value_type.result ∷ I32 ∷ []) [];
-      here = subst (λ (t : ValueType). PlainHere c.args.scope.now c.args.bytes.now c.args.at i.result.1 (takes_gives (t ∷ I32 ∷ []) [])) (sym c.value_type.ensures)
-          (here_true c.args.scope.now c.args.bytes.now c.args.at i.result.1 (c.args.scope.now.has_memory && is_aligned i.result.0 (store_bytes c.args.op)) (takes_gives (store_type c.args.op ∷ I32 ∷ []) []) yes (store_here c.args.scope.now c.args.bytes.now c.args.at i.result.1 c.args.op i.result.0 i.ensures.word i.ensures.end.0 i.ensures.end.1));
-      ok = a.ok;
-      same = a.same;
-      greatest = a.greatest;
-    }
+    let may = c.args.scope.now.has_memory && is_aligned i.result.0 (store_bytes c.args.op) in
+    let yes : may ≡ true = ap (λ n. c.args.scope.now.has_memory && is_aligned i.result.0 n) (sym c.bytes.ensures) ∙ sym c.may_access.ensures ∙ c.if-not-may_access.false in
+    over_plain c.args.scope.now c.args.bytes.now c.args.at i.result.1 (takes_gives (c.value_type.result ∷ I32 ∷ []) []) c.take_two.result c.and.result c.args.stack.now c.take_two.new.self
+    (subst (λ (t : ValueType). PlainHere c.args.scope.now c.args.bytes.now c.args.at i.result.1 (takes_gives (t ∷ I32 ∷ []) [])) (sym c.value_type.ensures)
+    (here_true c.args.scope.now c.args.bytes.now c.args.at i.result.1 may (takes_gives (store_type c.args.op ∷ I32 ∷ []) []) yes (store_here c.args.scope.now c.args.bytes.now c.args.at i.result.1 c.args.op i.result.0 i.ensures.word i.ensures.end.0 i.ensures.end.1)))
+    c.take_two.ensures c.and.ensures
 
-pub returns-then-not-may_access-clause-err : goal.returns-then-not-may_access-clause-err
-returns-then-not-may_access-clause-err c e =
+pub returns-then-not-may_access : goal.returns-then-not-may_access
+returns-then-not-may_access c =
     let i = c.store_at-next in
-    let no : (c.args.scope.now.has_memory && is_aligned i.result.0 (store_bytes c.args.op)) ≡ false = ap (λ n. c.args.scope.now.has_memory && is_aligned i.result.0 n) (sym c.bytes.ensures) ∙ sym c.may_access.ensures ∙ c.if-not-may_access.true in
-    record {
-      next = i.result.1;
-      type = untyped;
-      here = here_false c.args.scope.now c.args.bytes.now c.args.at i.result.1 (c.args.scope.now.has_memory && is_aligned i.result.0 (store_bytes c.args.op)) (takes_gives (store_type c.args.op ∷ I32 ∷ []) []) no (store_here c.args.scope.now c.args.bytes.now c.args.at i.result.1 c.args.op i.result.0 i.ensures.word i.ensures.end.0 i.ensures.end.1);
-      stops = refl;
-    }
-
-pub returns-in_err-take_two-clause-err : goal.returns-in_err-take_two-clause-err
-returns-in_err-take_two-clause-err c e =
-    let i = c.store_at-next in
-    let yes : (c.args.scope.now.has_memory && is_aligned i.result.0 (store_bytes c.args.op)) ≡ true = ap (λ n. c.args.scope.now.has_memory && is_aligned i.result.0 n) (sym c.bytes.ensures) ∙ sym c.may_access.ensures ∙ c.if-not-may_access.false in
-    let q = err_from_is_err_and c.from_residual.result c.from_residual.ensures.1 in
-    record {
-      next = i.result.1;
-      type = takes_gives (c.value_type.result ∷ I32 ∷ []) [];
-      here = subst (λ (t : ValueType). PlainHere c.args.scope.now c.args.bytes.now c.args.at i.result.1 (takes_gives (t ∷ I32 ∷ []) [])) (sym c.value_type.ensures)
-          (here_true c.args.scope.now c.args.bytes.now c.args.at i.result.1 (c.args.scope.now.has_memory && is_aligned i.result.0 (store_bytes c.args.op)) (takes_gives (store_type c.args.op ∷ I32 ∷ []) []) yes (store_here c.args.scope.now c.args.bytes.now c.args.at i.result.1 c.args.op i.result.0 i.ensures.word i.ensures.end.0 i.ensures.end.1));
-      stops = c.take_two.ensures.err (stop_kept c.from_residual.result c.take_two.result c.in_err-take_two.field-0.0 q.0 e q.1 q.2 c.in_err-take_two.was);
-    }
+    let may = c.args.scope.now.has_memory && is_aligned i.result.0 (store_bytes c.args.op) in
+    let no : may ≡ false = ap (λ n. c.args.scope.now.has_memory && is_aligned i.result.0 n) (sym c.bytes.ensures) ∙ sym c.may_access.ensures ∙ c.if-not-may_access.true in
+    over_untyped c.args.scope.now c.args.bytes.now c.args.at i.result.1 c.args.stack.now c.args.stack.now
+    (here_false c.args.scope.now c.args.bytes.now c.args.at i.result.1 may (takes_gives (store_type c.args.op ∷ I32 ∷ []) []) no (store_here c.args.scope.now c.args.bytes.now c.args.at i.result.1 c.args.op i.result.0 i.ensures.word i.ensures.end.0 i.ensures.end.1))

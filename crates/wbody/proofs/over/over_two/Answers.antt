@@ -1,33 +1,14 @@
 use Rattle.std.proofs.Common.{◌+◌, ◌≤◌, [], ◌∷◌, get_or, length, arith}
-use Rattle.std.proofs.lemmas.Result.{err_from_is_err_and}
 use Rattle.wcode.specs.Opcodes.{form}
 use Rattle.wbody.specs.Typing.{takes_gives}
-use Rattle.wbody.proofs.LevelLists.{stop_kept}
 use Rattle.wbody.proofs.KindForms.{form_two}
-use Rattle.wbody.proofs.PlainWords.{plain_here, few_more}
+use Rattle.wbody.proofs.PlainWords.{plain_here, few_more, over_plain}
 use Rattle.wbody.proofs.over.over_two.Goals as goal
 
-pub returns-clause-ok : goal.returns-clause-ok
-returns-clause-ok c =
+pub returns : goal.returns
+returns c =
     let t = c.args.t in
     let g = c.args.gives in
-    let a = c.in_ok-change_two.ensures in
-    record {
-      type = takes_gives (t ∷ t ∷ []) (g ∷ []);
-      here = plain_here c.args.scope.now c.args.bytes.now c.args.at _ c.requires.within (form_two _ t g c.requires.known) (few_more (t ∷ t ∷ []) (g ∷ []) (omega arith));
-      ok = a.ok;
-      same = a.same;
-      greatest = a.greatest;
-    }
-
-pub returns-in_err-change_two-clause-err : goal.returns-in_err-change_two-clause-err
-returns-in_err-change_two-clause-err c e =
-    let t = c.args.t in
-    let g = c.args.gives in
-    let q = err_from_is_err_and c.from_residual.result c.from_residual.ensures.1 in
-    record {
-      next = c.args.at + 1;
-      type = takes_gives (t ∷ t ∷ []) (g ∷ []);
-      here = plain_here c.args.scope.now c.args.bytes.now c.args.at _ c.requires.within (form_two _ t g c.requires.known) (few_more (t ∷ t ∷ []) (g ∷ []) (omega arith));
-      stops = c.change_two.ensures.err (stop_kept c.from_residual.result c.change_two.result c.in_err-change_two.field-0.0 q.0 e q.1 q.2 c.in_err-change_two.was);
-    }
+    over_plain c.args.scope.now c.args.bytes.now c.args.at (c.args.at + 1) _ c.change_two.result c.and.result c.args.stack.now c.change_two.new.self
+    (plain_here c.args.scope.now c.args.bytes.now c.args.at (takes_gives (t ∷ t ∷ []) (g ∷ [])) c.requires.within (form_two _ t g c.requires.known) (few_more (t ∷ t ∷ []) (g ∷ []) (omega arith)))
+    c.change_two.ensures c.and.ensures

@@ -13,35 +13,29 @@ use Rattle.wbody.proofs.Steps.{table_step, table_stop}
 use Rattle.wbody.proofs.NotedMoves.{cut_height}
 use Rattle.wbody.proofs.words.pass_table.Goals as goal
 
-pub returns-clause-ok : goal.returns-clause-ok
-returns-clause-ok c =
+pub returns : goal.returns
+returns c =
     let a = c.apply.ensures in
     let s = c.args.stack.now in
-    on_ok_3 c.apply.result a.ok a.same a.greatest (λ ok same greatest. λ w h c' total peak final front more base st spelled.
-    let t = shows_table c.args.bytes.now c.args.count c.args.labels_at w h in
-    table_step c' total peak final front more (reverse c.args.levels.now) s c.apply.new.self t.labels t.default st (subst (λ x. SpellsWord front x more) t.is spelled)
-    (λ os layers.
-    ap (λ (x : PlainType). pass_type x (stack_of s)) (sym (c.table_effect.ensures (inner_context c' os) t.labels t.default t.shown (base_labels c.args.scope.now c' c.args.levels.now os _ base layers)))
-    ∙ ok) same greatest)
-
-pub returns-clause-err : goal.returns-clause-err
-returns-clause-err c e w h c' total peak final front more base st spelled =
-    let s = c.args.stack.now in
-    let t = shows_table c.args.bytes.now c.args.count c.args.labels_at w h in
-    table_stop c' total peak final front more (reverse c.args.levels.now) s t.labels t.default st (subst (λ x. SpellsWord front x more) t.is spelled)
-    (λ os layers.
-    ap (λ (x : PlainType). pass_type x (stack_of s)) (sym (c.table_effect.ensures (inner_context c' os) t.labels t.default t.shown (base_labels c.args.scope.now c' c.args.levels.now os _ base layers)))
-    ∙ c.apply.ensures.err e)
-
-pub returns-clause-moves : goal.returns-clause-moves
-returns-clause-moves c =
-    let a = c.apply.ensures in
-    let s = c.args.stack.now in
-    let t = shows_table c.args.bytes.now c.args.count c.args.labels_at c.requires.0 c.requires.1 in
     let inside : Context = record { types = []; functions = []; has_table = false; has_memory = false; globals = []; locals = []; labels = labels_of c.args.levels.now c.args.scope.now.result; result = None } in
-    on_ok_3 c.apply.result a.ok a.same a.greatest (λ ok same greatest. (
-      refl,
-      same.floor,
-      cut_height s c.apply.new.self
-          (table_unreached inside t.labels t.default (stack_of s) (stack_of c.apply.new.self) (ap (λ (x : PlainType). pass_type x (stack_of s)) (sym (c.table_effect.ensures inside t.labels t.default t.shown refl)) ∙ ok)) same,
-    ))
+    record {
+      over = on_ok_3 c.apply.result a.ok a.same a.greatest (λ ok same greatest. λ w h c' total peak final front more base st spelled.
+          let t = shows_table c.args.bytes.now c.args.count c.args.labels_at w h in
+          table_step c' total peak final front more (reverse c.args.levels.now) s c.apply.new.self t.labels t.default st (subst (λ x. SpellsWord front x more) t.is spelled)
+          (λ os layers.
+          ap (λ (x : PlainType). pass_type x (stack_of s)) (sym (c.table_effect.ensures (inner_context c' os) t.labels t.default t.shown (base_labels c.args.scope.now c' c.args.levels.now os _ base layers)))
+          ∙ ok) same greatest);
+      moves = on_ok_3 c.apply.result a.ok a.same a.greatest (λ ok same greatest. (
+        refl,
+        same.floor,
+        (let t = shows_table c.args.bytes.now c.args.count c.args.labels_at c.requires.0 c.requires.1 in
+            cut_height s c.apply.new.self
+            (table_unreached inside t.labels t.default (stack_of s) (stack_of c.apply.new.self) (ap (λ (x : PlainType). pass_type x (stack_of s)) (sym (c.table_effect.ensures inside t.labels t.default t.shown refl)) ∙ ok)) same),
+      ));
+      err = λ e w h c' total peak final front more base st spelled.
+          let t = shows_table c.args.bytes.now c.args.count c.args.labels_at w h in
+          table_stop c' total peak final front more (reverse c.args.levels.now) s t.labels t.default st (subst (λ x. SpellsWord front x more) t.is spelled)
+          (λ os layers.
+          ap (λ (x : PlainType). pass_type x (stack_of s)) (sym (c.table_effect.ensures (inner_context c' os) t.labels t.default t.shown (base_labels c.args.scope.now c' c.args.levels.now os _ base layers)))
+          ∙ a.err e);
+    }
