@@ -29,6 +29,10 @@ pub if_ok : {T E : Type 0} {P Q : T → Type 0} (r : Result T E) → IfOk r P �
 if_ok (Ok v) p f = f v p
 if_ok (Err e) p f = tt
 
+pub if_ok_2 : {T E : Type 0} {P Q R : T → Type 0} (r : Result T E) → IfOk r P → IfOk r Q → ((v : T) → P v → Q v → R v) → IfOk r R
+if_ok_2 (Ok v) p q f = f v p q
+if_ok_2 (Err e) p q f = tt
+
 pub empty_of : {A : Type 0} (xs : List A) → slice_get xs (length xs - 1) ≡ None → xs ≡ []
 empty_of [] e = refl
 empty_of (x ∷ xs) e =
