@@ -1,5 +1,7 @@
 -- What the operands come to, where some are taken off and one is put on top.
-use Rattle.std.proofs.Common.{◌≡◌, List, [], ◌∷◌, ◌++◌, Bool, true, false, Option, Some, None, Result, Ok, Err, max, vec_len, refl, sym, ap, ◌∙◌, subst, arith}
+use Rattle.std.proofs.Common.{◌≡◌, ◌+◌, ◌<◌, ◌≤◌, List, [], ◌∷◌, ◌++◌, Bool, true, false, Option, Some, None, Result, Ok, Err, IsSome, length, drop, take, reverse, max, vec_len, refl, sym, ap, ◌∙◌, subst, arith}
+use Rattle.std.specs.Option.{option_to_list}
+use Rattle.std.proofs.lemmas.List.{drop-append-le, take-append-le, drop_all, reverse-append}
 use Rattle.std.specs.Prelude.{option_and_then, option_map, if◌then◌else◌}
 use Rattle.wcode.specs.declared.value.ValueType.{ValueType}
 use Rattle.wcode.specs.declared.value.ValueType.TheVariants.{I32}
@@ -9,7 +11,7 @@ use Rattle.wbody.specs.declared.stop.Stop.TheVariants as stops
 use Rattle.wbody.specs.Context.{Operands}
 use Rattle.wbody.specs.Typing.{takes_gives, drops, selects, ends}
 use Rattle.wbody.specs.inside.Pass.{Stack, unreached, may_be, take_types, taken, given, drop_top, common, join_top}
-use Rattle.wbody.specs.inside.OperandStack.{stack_of, SameBlock, top_of, pushed, Takes, Gives, Changes}
+use Rattle.wbody.specs.inside.OperandStack.{stack_of, SameBlock, top_of, pushed, TakesTop, Takes, Gives, Changes}
 
 -- the greatest number stays where none is put on top
 still : (s n : OperandStack) → n.greatest ≡ s.greatest → n.greatest ≡ max s.greatest (vec_len n.items)
@@ -20,6 +22,51 @@ still s n kept = let enough = n.enough in omega (arith, kept, enough)
 -- a block that stays the same twice stays the same
 pub same_on : (s m n : OperandStack) → SameBlock s m → SameBlock m n → SameBlock s n
 same_on s m n a b = record { floor = b.floor ∙ a.floor; below = b.below ∙ a.below }
+
+-- one was popped off those of the innermost block
+pub popped : (s n : OperandStack) (r : Option (Option ValueType)) → n.floor ≡ s.floor → n.reached ≡ s.reached → n.greatest ≡ s.greatest → s.floor < vec_len s.items → s.items.items ≡ n.items.items ++ option_to_list r → vec_len n.items + length (option_to_list r) ≡ vec_len s.items → IsSome r
+    → TakesTop r s n
+popped s n None floor reached great more items len is = absurd (let none : false ≡ true = is in cc)
+popped s n (Some x) floor reached great more items len is =
+    let within : s.floor ≤ length n.items.items = (let one : vec_len n.items + 1 ≡ vec_len s.items = len in omega (arith, more, one, n.items.ok.0)) in
+    let inner : drop s.floor s.items.items ≡ drop s.floor n.items.items ++ x ∷ [] = ap (drop s.floor) items ∙ drop-append-le s.floor n.items.items (x ∷ []) within in
+    let operands : (stack_of s).operands ≡ x ∷ (stack_of n).operands =
+    ap (λ (l : List (Option ValueType)). reverse l) inner ∙ reverse-append (drop s.floor n.items.items) (x ∷ []) ∙ ap (λ f. x ∷ reverse (drop f n.items.items)) (sym floor) in
+    record {
+      taken = ap (λ (l : List (Option ValueType)). drop_top l s.reached) operands ∙ ap (λ r. let y : Stack = record { operands = (stack_of n).operands; reached = r } in Some y) (sym reached);
+      top = ap top_of (sym operands);
+      missing = λ e. absurd (cc);
+      same = record { floor = floor; below = ap (λ f. take f n.items.items) floor ∙ sym (ap (take s.floor) items ∙ take-append-le s.floor n.items.items (x ∷ []) within) };
+      greatest = great;
+    }
+
+-- those of the innermost block are none
+none_inside : (s : OperandStack) → vec_len s.items ≤ s.floor → (stack_of s).operands ≡ []
+none_inside s few =
+    let past : length s.items.items ≤ s.floor = omega (arith, few, s.items.ok.0) in
+    ap (λ (l : List (Option ValueType)). reverse l) (drop_all s.floor s.items.items past)
+
+pub none_to_pop : (s : OperandStack) → vec_len s.items ≤ s.floor → s.reached ≡ true → TakesTop None s s
+none_to_pop s few is =
+    record {
+      taken = tt;
+      top = tt;
+      missing = λ e. ap (λ (l : List (Option ValueType)). drop_top l s.reached) (none_inside s few) ∙ ap (drop_top []) is;
+      same = tt;
+      greatest = refl;
+    }
+
+pub any_to_pop : (s : OperandStack) → vec_len s.items ≤ s.floor → s.reached ≡ false → TakesTop (Some None) s s
+any_to_pop s few is =
+    let none = none_inside s few in
+    record {
+      taken = ap (λ (l : List (Option ValueType)). drop_top l s.reached) none ∙ ap (drop_top []) is ∙ ap (λ r. let y : Stack = record { operands = []; reached = r } in Some y) (sym is)
+          ∙ ap (λ l. let y : Stack = record { operands = l; reached = s.reached } in Some y) (sym none);
+      top = ap top_of (sym none);
+      missing = λ e. absurd (cc);
+      same = record { floor = refl; below = refl };
+      greatest = refl;
+    }
 
 -- what is taken by its type is the topmost one
 dropped : (t : ValueType) (xs : List (Option ValueType)) (r : Bool) (m : Stack) → drop_top xs r ≡ Some m → take_types (t ∷ []) xs r ≡ (if may_be t (top_of xs) then Some m else None)

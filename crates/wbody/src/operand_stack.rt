@@ -1,8 +1,8 @@
 //! The operands of a body as far as they are known, where its typing stands.
 
-ghost use Rattle.std.specs.Prelude.{false, true, ◌≡◌, ◌≤◌, ◌<◌, ◌+◌, [], ◌∷◌, ◌++◌, Some, None, IfSome, OnOk, vec_len, length, reverse, take, drop, max};
+ghost use Rattle.std.specs.Prelude.{false, true, ◌≡◌, ◌≤◌, ◌<◌, ◌+◌, [], ◌∷◌, ◌++◌, Some, OnOk, vec_len, length, reverse, take, drop, max};
 ghost use Rattle.wbody.specs.Context.{at_most_one, results_of};
-ghost use Rattle.wbody.specs.inside.Pass.{may_be, fits, closed, common, fresh, unreached, drop_top};
+ghost use Rattle.wbody.specs.inside.Pass.{may_be, fits, closed, common, fresh, unreached};
 
 use crate::stop::Stop;
 use std::alloc::Global;
@@ -43,7 +43,7 @@ fn common_of(first: Option<ValueType>, second: Option<ValueType>) -> Option<Opti
 }
 
 impl OperandStack {
-    ghost use Rattle.wbody.specs.inside.OperandStack.{stack_of, below_of, SameBlock, top_of, Takes, Gives};
+    ghost use Rattle.wbody.specs.inside.OperandStack.{stack_of, below_of, SameBlock, TakesTop, Takes, Gives};
 
     // The height at which the innermost block began.
     pub fn floor(&self) -> usize
@@ -89,12 +89,7 @@ impl OperandStack {
 
     // Takes off the topmost operand, whatever its type, if there can be one.
     pub fn take_any(&mut self) -> Option<Option<ValueType>>
-        ensures taken { IfSome result (λ x. drop_top (stack_of self.old).operands (stack_of self.old).reached
-            ≡ Some (stack_of self.new)) }
-        ensures top { IfSome result (λ x. x ≡ top_of (stack_of self.old).operands) }
-        ensures missing { result ≡ None → drop_top (stack_of self.old).operands (stack_of self.old).reached ≡ None }
-        ensures same { IfSome result (λ x. SameBlock self.old self.new) }
-        ensures greatest { self.new.greatest ≡ self.old.greatest }
+        ensures { TakesTop result self.old self.new }
     {
         if self.items.len() > self.floor {
             self.items.pop()

@@ -1,12 +1,12 @@
 -- What the code's operands are seen as.
-use Rattle.std.specs.Prelude.{◌≡◌, ◌+◌, List, [], ◌∷◌, Bool, true, false, Option, Some, None, Result, Err, OnOk, reverse, take, drop, max, vec_len}
+use Rattle.std.specs.Prelude.{◌≡◌, ◌+◌, List, [], ◌∷◌, Bool, true, false, Option, Some, None, IfSome, Result, Err, OnOk, reverse, take, drop, max, vec_len}
 use Rattle.wcode.specs.declared.value.ValueType.{ValueType}
 use Rattle.wbody.specs.declared.operand_stack.OperandStack.{OperandStack}
 use Rattle.wbody.specs.declared.stop.Stop.{Stop}
 use Rattle.wbody.specs.declared.stop.Stop.TheVariants as stops
 use Rattle.wbody.specs.Context.{Operands}
 use Rattle.wbody.specs.Typing.{PlainType}
-use Rattle.wbody.specs.inside.Pass.{Stack, taken, pass_type}
+use Rattle.wbody.specs.inside.Pass.{Stack, taken, drop_top, pass_type}
 
 -- those of the innermost block
 abbrev pub stack_of : OperandStack → Stack
@@ -29,6 +29,14 @@ top_of (x ∷ xs) = x
 -- one more operand
 abbrev pub pushed : Option ValueType → Stack → Stack
 pushed x s = record { operands = x ∷ s.operands; reached = s.reached }
+
+-- the topmost operand was taken off, whatever its type, or there can be none
+pub record TakesTop (result : Option (Option ValueType)) (old new : OperandStack) : Type 0 where
+  pub taken : IfSome result (λ x. drop_top (stack_of old).operands old.reached ≡ Some (stack_of new))
+  pub top : IfSome result (λ x. x ≡ top_of (stack_of old).operands)
+  pub missing : result ≡ None → drop_top (stack_of old).operands old.reached ≡ None
+  pub same : IfSome result (λ x. SameBlock old new)
+  pub greatest : new.greatest ≡ old.greatest
 
 -- operands of these types were taken off the top, or there can be none
 pub record Takes (types : Operands) (did : Bool) (old new : OperandStack) : Type 0 where
