@@ -1,7 +1,7 @@
 -- What the operands come to, where some are taken off and one is put on top.
-use Rattle.std.proofs.Common.{◌≡◌, ◌+◌, ◌<◌, ◌≤◌, List, [], ◌∷◌, ◌++◌, Bool, true, false, Option, Some, None, Result, Ok, Err, IsSome, length, drop, take, reverse, max, vec_len, refl, sym, ap, ◌∙◌, subst, arith}
+use Rattle.std.proofs.Common.{◌≡◌, ℕ, ◌+◌, ◌<◌, ◌≤◌, List, [], ◌∷◌, ◌++◌, Bool, true, false, Option, Some, None, Result, Ok, Err, IsSome, length, drop, take, reverse, max, vec_len, refl, sym, ap, ◌∙◌, subst, arith}
 use Rattle.std.specs.Option.{option_to_list}
-use Rattle.std.proofs.lemmas.List.{drop-append-le, take-append-le, drop_all, reverse-append}
+use Rattle.std.proofs.lemmas.List.{drop-append-le, take-append-le, drop_all, take_all, length-take, reverse-append}
 use Rattle.std.specs.Prelude.{option_and_then, option_map, if◌then◌else◌}
 use Rattle.wcode.specs.declared.value.ValueType.{ValueType}
 use Rattle.wcode.specs.declared.value.ValueType.TheVariants.{I32}
@@ -67,6 +67,16 @@ any_to_pop s few is =
       same = record { floor = refl; below = refl };
       greatest = refl;
     }
+
+-- without those of the innermost block, none of it is there, and those below are
+pub none_behind : (items new : List (Option ValueType)) (k : ℕ) → new ≡ take k items → drop k new ≡ []
+none_behind items new k is = ap (drop k) is ∙ drop_all k (take k items) (omega (arith, length-take k items))
+
+pub same_below : (items new : List (Option ValueType)) (k : ℕ) → new ≡ take k items → take k new ≡ take k items
+same_below items new k is = ap (take k) is ∙ take_all k (take k items) (omega (arith, length-take k items))
+
+pub emptied : (items new : List (Option ValueType)) (k : ℕ) (reached : Bool) → new ≡ take k items → record { operands = reverse (drop k new); reached = reached } ≡ (let none : Stack = record { operands = []; reached = reached } in none)
+emptied items new k reached is = ap (λ l. let s : Stack = record { operands = reverse l; reached = reached } in s) (none_behind items new k is)
 
 -- what is taken by its type is the topmost one
 dropped : (t : ValueType) (xs : List (Option ValueType)) (r : Bool) (m : Stack) → drop_top xs r ≡ Some m → take_types (t ∷ []) xs r ≡ (if may_be t (top_of xs) then Some m else None)

@@ -1,8 +1,8 @@
 -- What stands at an index of a context's lists.
-use Rattle.std.proofs.Common.{◌≡◌, ℕ, zero, suc, ◌+◌, ◌-◌, ◌<◌, ◌≤◌, List, [], ◌∷◌, ◌++◌, Option, Some, None, length, map, get_or, drop, replicate, refl, sym, ap, ◌∙◌, arith, add-one}
+use Rattle.std.proofs.Common.{◌≡◌, ℕ, zero, suc, ◌+◌, ◌-◌, ◌<◌, ◌≤◌, List, [], ◌∷◌, ◌++◌, Option, Some, None, length, map, get_or, drop, replicate, reverse, refl, sym, ap, ◌∙◌, arith, add-one}
 use Rattle.std.specs.Prelude.{slice_get, option_map}
 use Rattle.std.specs.List.{AllByRecursion}
-use Rattle.std.proofs.lemmas.List.{length-replicate, length-map}
+use Rattle.std.proofs.lemmas.List.{length-replicate, length-map, length-reverse, get_or-reverse}
 use Rattle.std.proofs.lemmas.Option.{slice_get-map, slice_get-get_or}
 use Rattle.std.proofs.Math.ListN.{get_or-replicate}
 use Rattle.std.proofs.Math.Seq.{drop-cons}
@@ -12,8 +12,10 @@ use Rattle.wbin.specs.declared.module.ImportKind.{ImportKind}
 use Rattle.wbin.specs.declared.module.ImportKind.TheVariants as imported
 use Rattle.wbin.specs.declared.module.LocalRun.{LocalRun}
 use Rattle.wbin.specs.Syntax.{Signature, import_of, locals_of}
-use Rattle.wbody.specs.Context.{imported_function, imported_functions}
+use Rattle.wbody.specs.declared.scope.Level.{Level}
+use Rattle.wbody.specs.Context.{at_most_one, imported_function, imported_functions}
 use Rattle.wbody.specs.Scope.{IsFunctionImport}
+use Rattle.wbody.specs.inside.Scope.{carried_by, labels_of}
 
 pub get_left : {A : Type 0} (xs ys : List A) (k : ℕ) → k < length xs → slice_get (xs ++ ys) k ≡ slice_get xs k
 get_left [] ys k h = absurd (omega arith)
@@ -25,6 +27,15 @@ get_right [] ys k h = let e : k ≡ k - 0 = omega arith in ap (slice_get ys) e
 get_right (x ∷ xs) ys zero h = absurd (omega arith)
 get_right (x ∷ xs) ys (suc k) h =
     let e : k - length xs ≡ suc k - length (x ∷ xs) = omega arith in get_right xs ys k (omega arith) ∙ ap (slice_get ys) e
+
+-- the label of an open block, so many outwards
+pub label_found : (levels : List Level) (result : Option ValueType) (label : ℕ) (d : Level) (t : Option ValueType) → label < length levels → at_most_one t ≡ carried_by (get_or levels (length levels - 1 - label) d)
+    → slice_get (labels_of levels result) label ≡ Some (at_most_one t)
+label_found levels result label d t within is =
+    let inside : label < length (reverse levels) = omega (arith, length-reverse levels) in
+    let left : label < length (map carried_by (reverse levels)) = omega (arith, length-map (reverse levels) carried_by, length-reverse levels) in
+    get_left (map carried_by (reverse levels)) (at_most_one result ∷ []) label left ∙ slice_get-map carried_by (reverse levels) label
+    ∙ ap (option_map carried_by) (slice_get-get_or (reverse levels) label d inside ∙ ap Some (get_or-reverse levels label d within)) ∙ ap Some (sym is)
 
 -- one of a run of locals
 pub in_run : (n : ℕ) (t : ValueType) (more : List ValueType) (k : ℕ) → k < n → slice_get (replicate n t ++ more) k ≡ Some t

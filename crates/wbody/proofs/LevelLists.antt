@@ -25,6 +25,9 @@ pub when_ok : {T E P : Type 0} (r : Result T E) (failed : Bool) → failed ≡ i
 when_ok (Ok v) failed is e p = p
 when_ok (Err x) failed is e p = absurd (cc)
 
+pub not_err : {T E : Type 0} (v : T) (x : E) → Ok v ≡ Err x → ⊥
+not_err v x e = cc
+
 pub if_ok : {T E : Type 0} {P Q : T → Type 0} (r : Result T E) → IfOk r P → ((v : T) → P v → Q v) → IfOk r Q
 if_ok (Ok v) p f = f v p
 if_ok (Err e) p f = tt

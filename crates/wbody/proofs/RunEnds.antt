@@ -6,6 +6,7 @@ use Rattle.std.specs.List.Sorted.{IsNonDecreasingBy}
 use Rattle.std.specs.List.Sorted.{IsPartitionPoint}
 use Rattle.std.proofs.Math.Numerals.{one-add}
 use Rattle.std.proofs.lemmas.Bool.Decides.{leb_tells}
+use Rattle.std.proofs.lemmas.List.{append-nil, drop_all}
 use Rattle.wcode.specs.declared.value.ValueType.{ValueType}
 use Rattle.wbin.specs.declared.module.LocalRun.{LocalRun}
 use Rattle.wbin.specs.Syntax.{locals_of}
@@ -94,3 +95,8 @@ ends_more ends start runs i d within =
     let same : drop i runs ≡ get_or runs i d ∷ drop (i + 1) runs = first ∙ ap (λ n. get_or runs i d ∷ drop n runs) (sym (add-one i)) in
     append_assoc ends (end_of start (get_or runs i d) ∷ []) (ends_from (end_of start (get_or runs i d)) (drop (i + 1) runs))
     ∙ ap (λ l. ends ++ ends_from start l) (sym same)
+
+-- where no runs are to come, those so far are all
+pub ends_done : (ends : List ℕ) (end : ℕ) (runs : List LocalRun) (i : ℕ) → length runs ≤ i → ends ++ ends_from end (drop i runs) ≡ ends_of runs → ends ≡ ends_of runs
+ends_done ends end runs i past all =
+    sym (append-nil ends) ∙ ap (λ (l : List LocalRun). ends ++ ends_from end l) (sym (drop_all i runs past)) ∙ all

@@ -1,9 +1,10 @@
 use Rattle.std.proofs.Common.{List, reverse, refl, sym, ap, ◌∙◌, subst}
 use Rattle.wcode.specs.Grammar.{SpellsWord}
+use Rattle.wbody.specs.declared.stop.Stop.TheVariants as stops
 use Rattle.wbody.specs.declared.scope.Level.{Level}
 use Rattle.wbody.specs.declared.scope.Opened.TheVariants as opened
 use Rattle.wbody.specs.inside.Standing.{Stands}
-use Rattle.wbody.proofs.LevelLists.{reverse-last, empty_of}
+use Rattle.wbody.proofs.LevelLists.{reverse-last, empty_of, not_err}
 use Rattle.wbody.proofs.Steps.{else_step, else_stop, no_else}
 use Rattle.wbody.proofs.words.pass_else.Goals as goal
 
@@ -46,5 +47,5 @@ returns-in-Ok c scope bytes =
           ((else_step c' total peak final front more v v' (reverse rest) s n (subst (λ (l : List Level). Stands c' total peak final front l s) is st) (subst (λ v. SpellsWord front v more) shown spelled) refl refl refl refl
           (sym c.has_results.ensures ∙ c.if-not-has_results.false) r.stack r.same r.len r.greatest).1);
       moves = (v, rest, c.in-Some.ensures.items, c.in-Ok.ensures.ok, r.same.floor, n.items.ok.0 ∙ r.len ∙ r.same.floor);
-      err = λ e. absurd (cc);
+      err = λ e. absurd (not_err tt stops.Untyped e);
     }
