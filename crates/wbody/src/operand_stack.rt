@@ -143,7 +143,7 @@ impl OperandStack {
         self.take(above) && self.take(below)
     }
 
-    // Takes off such an operand, if one is wanted and can be there.
+    // Takes off such an operand, where one is wanted, if it can be there.
     fn take_at_most_one(&mut self, wanted: Option<ValueType>) -> bool
         ensures { Takes (at_most_one wanted) result self.old self.new }
     {
