@@ -123,7 +123,8 @@ pub(crate) fn put_items<T: Item>(
 
 // An array of texts.
 fn put_texts(writer: &mut Writer, items: &[&str]) -> Result<(), AllocError>
-    ensures { Adds result writer.old writer.new (json_tokens (array (items_json (λ text. Json.string text.now) items.now))) }
+    ensures { Adds result writer.old writer.new
+        (json_tokens (array (items_json (λ text. Json.string text.now) items.now))) }
 {
     writer.begin_array()?;
     for text in items {
