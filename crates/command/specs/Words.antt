@@ -211,11 +211,13 @@ program = on_top (λ s. record s {
   subcommand_required = true;
 }) (new_app (codes "wsched"))
 
+-- the commands that decide of a script
+abbrev pub script_line : App
+script_line = with_subcommand (with_subcommand (with_subcommand program (run_command (codes "run")).top) (run_command (codes "explain")).top) storm_command.top
+
 -- the command line as `clap` sees it
 abbrev pub command_line : App
-command_line =
-    with_subcommand (with_subcommand (with_subcommand (with_subcommand (with_subcommand (with_subcommand (with_subcommand program (run_command (codes "run")).top)
-    (run_command (codes "explain")).top) storm_command.top) check_command.top) translate_command.top) live_command.top) version_command.top
+command_line = with_subcommand (with_subcommand (with_subcommand (with_subcommand script_line check_command.top) translate_command.top) live_command.top) version_command.top
 
 -- `clap` takes the words for the command line
 abbrev pub are_taken : List (List ℕ) → Bool

@@ -2,7 +2,7 @@
 ghost use Rattle.std.specs.Prelude.{◌≡◌, ◌≤◌, Some, None, Err, true, false, map, option_map, IfErr, IfOk, IsOk};
 ghost use Rattle.clap.specs.Words.{app_of, new_app, found_of, rows_of, rule_of, subcommand_of, subcommand_rows_of, with_rule, with_subcommand};
 ghost use Rattle.command.specs.Count.{most_of};
-ghost use Rattle.command.specs.Words.{are_taken, asked_of, check_command, command_line, file_rule, flag_rule, found, is_told, labels_found, meaning, number_found, option_rule, plan_found, program, run_command, scheduler_found, specs_found, specs_rule, storm_command, storm_found, storm_planned, syntax_of, translate_command, translate_found, translate_planned, live_command, live_found, live_planned, version_command};
+ghost use Rattle.command.specs.Words.{are_taken, asked_of, check_command, command_line, file_rule, flag_rule, found, is_told, labels_found, meaning, number_found, option_rule, plan_found, program, run_command, scheduler_found, script_line, specs_found, specs_rule, storm_command, storm_found, storm_planned, syntax_of, translate_command, translate_found, translate_planned, live_command, live_found, live_planned, version_command};
 ghost use Rattle.command.specs.inside.Words.{IsLocal, Means, found_behind, named, planned};
 ghost use Rattle.command.specs.Within.{AreWithinLimits, IsPlan, IsStormPlan, IsWithin};
 
@@ -167,13 +167,21 @@ fn program<'a>(alloc: Global) -> Command<'a>
         .subcommand_required(true)
 }
 
+// The program with those of its commands that decide of a script. What a function holds of a command
+// is proved anew at each of its steps, so that the line is built by two.
+fn script_line<'a>(alloc: Global) -> Result<Command<'a>, AllocError>
+    ensures { IfOk result (λ command. app_of command ≡ script_line) }
+{
+    let line = with_command(Ok(program(alloc)), run_command(alloc, "run"));
+    let line = with_command(line, run_command(alloc, "explain"));
+    with_command(line, storm_command(alloc))
+}
+
 // The program's command line, as `clap` reads it.
 fn command_line<'a>(alloc: Global) -> Result<Command<'a>, AllocError>
     ensures { IfOk result (λ command. app_of command ≡ command_line) }
 {
-    let line = with_command(Ok(program(alloc)), run_command(alloc, "run"));
-    let line = with_command(line, run_command(alloc, "explain"));
-    let line = with_command(line, storm_command(alloc));
+    let line = script_line(alloc);
     let line = with_command(line, check_command(alloc));
     let line = with_command(line, translate_command(alloc));
     let line = with_command(line, live_command(alloc));
@@ -401,12 +409,20 @@ pub fn words<'a, S: AsStr>(alloc: Global, args: &'a [S]) -> Result<Words<'a>, Wo
 ///
 /// Errors: `BadWords` where one is not UTF-8, and `NoMemory`.
 pub fn arguments<R: Env + AllocGlobal>(rt: &R) -> Result<Vec<String>, WordFault> {
-    let words = env::args(rt).map_err(|error| match error.kind() {
+    let words = match env::args(rt) {
+        Ok(words) => words,
+        Err(error) => return Err(unread(error.kind())),
+    };
+    match words.skip(1).collect(rt.alloc()) {
+        Ok(words) => Ok(words),
+        Err(AllocError) => Err(WordFault::NoMemory),
+    }
+}
+
+// Why the words could not be read.
+fn unread(kind: io::ErrorKind) -> WordFault {
+    match kind {
         io::ErrorKind::InvalidData => WordFault::BadWords,
         _ => WordFault::NoMemory,
-    })?;
-    words
-        .skip(1)
-        .collect(rt.alloc())
-        .map_err(|_| WordFault::NoMemory)
+    }
 }
