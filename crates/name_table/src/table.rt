@@ -24,7 +24,6 @@ use std::mem;
 /// A call goes along the names of one bucket. There are at least as many buckets as slots, and the
 /// hash has keys of its own (SipHash, by `RandomState`), so that nobody who doesn't know them can
 /// choose names that share one.
-#[derive(Drop)]
 pub struct NameTable<V> {
     keys: RandomState,
     // The number of buckets, a power of two, less 1.
@@ -224,6 +223,19 @@ impl<V: Drop> NameTable<V> {
         ensures room { length self.new ≡ length self.old }
     {
         mem::replace(self.value_at_mut(slot), value)
+    }
+}
+
+// By hand, so that who drops a table calls this, and its parts' drops are proved here alone.
+impl<V: Drop> Drop for NameTable<V> {
+    fn drop(self) {
+        let Self {
+            keys: _,
+            mask: _,
+            chains: _chains,
+            entries: _entries,
+            len: _,
+        } = self;
     }
 }
 

@@ -16,7 +16,6 @@ use std::marker::Model;
 
 /// The scheduling queue: entries under their pods' uids, at most as many as it was made for.
 /// Contracts see it as a plain set of entries, however it keeps them.
-#[derive(Drop)]
 pub struct Queue {
     pods: NameTable<Slot>,
     index: Index,
@@ -221,5 +220,16 @@ impl Queue {
         self.index
             .leave(&self.pods, slot, state, &mut self.compared);
         Some(self.pods.remove_at(slot).value.into_pod())
+    }
+}
+
+// By hand, so that who drops a queue calls this, and its parts' drops are proved here alone.
+impl Drop for Queue {
+    fn drop(self) {
+        let Self {
+            pods: _pods,
+            index: _index,
+            compared: _,
+        } = self;
     }
 }
