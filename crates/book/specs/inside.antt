@@ -3,4 +3,3 @@ pub mod Totals
 pub mod Rows
 pub mod Codes
 pub mod Finishes
-pub mod Step

@@ -1,9 +1,10 @@
 //! The book: the nodes, the places, the version of the last event and the last ticket.
-ghost use Rattle.std.specs.Prelude.{◌≡◌, ℕ, ◌≤◌, List, IfOk, IfErr, IfSome, IfNone, map, length, nat_le, Bool, true, false, not, ◌∷◌, [], Ok, Err, if◌then◌else◌};
+ghost use Rattle.std.specs.Prelude.{◌≡◌, ℕ, ◌≤◌, List, IfOk, IfErr, IfSome, IfNone, MatchResult, map, length, nat_le, Bool, true, false, not, ◌∷◌, [], Ok, Err, if◌then◌else◌};
 ghost use Rattle.std.specs.Bool.{IsTrue};
 ghost use Rattle.std.specs.Option.{option_copied};
 ghost use Rattle.std.specs.Result.{result_err};
 ghost use Rattle.std.specs.FinMap as fin;
+ghost use Rattle.book.specs.declared.step.Reply.TheVariants as replies;
 
 mod slots;
 
@@ -26,7 +27,6 @@ use std::marker::Model;
 /// What is known of a cluster: its nodes, and where its pods are placed.
 ///
 /// Places stay when their node goes, and a pod may be placed on a node that isn't there yet.
-#[derive(Drop)]
 pub struct Book {
     limits: Limits,
     version: Version,
@@ -59,7 +59,6 @@ impl Book {
     ghost use Rattle.book.specs.Rows.{named, rows_in, IsRowOf, IsGapFor};
     ghost use Rattle.book.specs.Used.{used, assumed, bound};
     ghost use Rattle.book.specs.Step.{IsTaken, is_old, after, reply, next_ticket, first_of, is_placed, is_there, fits_row, refusal_by_ticket, without_place};
-    ghost use Rattle.book.specs.inside.Step.{IsAnswered};
     ghost use Rattle.book.specs.Expiry.{is_expired, IsFirstExpired, NoneExpired};
     ghost use Rattle.book.specs.declared.step.ClusterStep.TheVariants as steps;
 
@@ -90,77 +89,44 @@ impl Book {
         ensures reply { result ≡ reply self.old step }
         ensures after { self.new ≡ after self.old step }
     {
-        let taken = match step {
+        match step {
             ClusterStep::Event {
                 event,
                 queued,
                 queue_full,
             } => self.answer_event(event, queued, queue_full),
-            ClusterStep::Assume { uid, node, entry } => self.answer_assume(uid, node, entry),
+            ClusterStep::Assume { uid, node, entry } => match self.assume(uid, node, entry) {
+                Ok(ticket) => Reply::Ticket(ticket),
+                Err(why) => Reply::Refused(why),
+            },
             ClusterStep::BindDone {
                 uid,
                 ticket,
                 at,
                 queued,
-            } => self.answer_finish(&uid, ticket, at, queued),
+            } => said(self.finish(&uid, ticket, at, queued)),
             ClusterStep::Forget {
                 uid,
                 ticket,
                 queued,
-            } => self.answer_forget(&uid, ticket, queued),
-        };
-        match taken {
-            Ok(reply) => reply,
-            Err(why) => Reply::Refused(why),
+            } => said(self.forget(&uid, ticket, queued)),
         }
     }
 
     // Takes an event, with its answer.
-    fn answer_event(
-        &mut self,
-        event: Event,
-        queued: bool,
-        queue_full: bool,
-    ) -> Result<Reply, Refusal>
-        ensures { IsAnswered self.old (steps.Event event queued queue_full) result self.new }
+    fn answer_event(&mut self, event: Event, queued: bool, queue_full: bool) -> Reply
+        ensures reply { result ≡ reply self.old (steps.Event event queued queue_full) }
+        ensures after { self.new ≡ after self.old (steps.Event event queued queue_full) }
     {
         match event {
             Event::PodPending { version, pod } => {
-                let pod = self.await_pod(version, pod, queued, queue_full)?;
-                Ok(Reply::Queue(pod))
+                match self.await_pod(version, pod, queued, queue_full) {
+                    Ok(pod) => Reply::Queue(pod),
+                    Err(why) => Reply::Refused(why),
+                }
             }
-            event => {
-                self.take_event(event, queued, queue_full)?;
-                Ok(Reply::Done)
-            }
+            event => said(self.take_event(event, queued, queue_full)),
         }
-    }
-
-    fn answer_assume(&mut self, uid: Name, node: Name, entry: Entry) -> Result<Reply, Refusal>
-        ensures { IsAnswered self.old (steps.Assume uid node entry) result self.new }
-    {
-        let ticket = self.assume(uid, node, entry)?;
-        Ok(Reply::Ticket(ticket))
-    }
-
-    fn answer_finish(
-        &mut self,
-        uid: &Name,
-        ticket: Ticket,
-        at: Moment,
-        queued: bool,
-    ) -> Result<Reply, Refusal>
-        ensures { IsAnswered self.old (steps.BindDone uid.now ticket at queued) result self.new }
-    {
-        self.finish(uid, ticket, at, queued)?;
-        Ok(Reply::Done)
-    }
-
-    fn answer_forget(&mut self, uid: &Name, ticket: Ticket, queued: bool) -> Result<Reply, Refusal>
-        ensures { IsAnswered self.old (steps.Forget uid.now ticket queued) result self.new }
-    {
-        self.forget(uid, ticket, queued)?;
-        Ok(Reply::Done)
     }
 
     /// Takes an event, or refuses it and changes nothing, as the call does that is for it.
@@ -472,5 +438,28 @@ impl Book {
         ensures { result ≡ assumed self.now.places }
     {
         self.places.assumed()
+    }
+}
+
+// By hand, so that who drops a book calls this, and its parts' drops are proved here alone.
+impl Drop for Book {
+    fn drop(self) {
+        let Self {
+            limits: _,
+            version: _,
+            nodes: _nodes,
+            places: _places,
+            ticket: _,
+        } = self;
+    }
+}
+
+// What there is to say of a step that was done or refused.
+fn said(done: Result<(), Refusal>) -> Reply
+    ensures { MatchResult done (λ _. result ≡ replies.Done) (λ why. result ≡ replies.Refused why) }
+{
+    match done {
+        Ok(()) => Reply::Done,
+        Err(why) => Reply::Refused(why),
     }
 }
