@@ -22,7 +22,6 @@ use std::sync::Arc;
 
 /// A call that is to be published: what it changes, how many calls of its pass were then answered,
 /// and the history with it.
-#[derive(Drop)]
 pub struct Order {
     pub(crate) change: Change,
     pub(crate) pass: usize,
@@ -32,7 +31,6 @@ pub struct Order {
 
 /// What looks read: the nodes with what is used of each, how many calls of each pass were answered,
 /// and the history that left it so.
-#[derive(Drop)]
 pub struct Board {
     alloc: Global,
     nodes: Vec<SharedNode>,
@@ -70,8 +68,12 @@ impl Board {
           prefix = nothing.now;
         }) }
     {
-        let nodes = Vec::with_capacity(alloc, limits.nodes)?;
-        let used = Vec::with_capacity(alloc, limits.nodes)?;
+        let Ok(nodes) = Vec::with_capacity(alloc, limits.nodes) else {
+            return Err(NoMemory);
+        };
+        let Ok(used) = Vec::with_capacity(alloc, limits.nodes) else {
+            return Err(NoMemory);
+        };
         Ok(Board {
             alloc,
             nodes,
@@ -165,8 +167,8 @@ impl Board {
                 self.write(*second);
             }
             Change::AllUsed(all) => self.write_all(all),
-            Change::Set(at, node) => self.set(*at, node)?,
-            Change::Come(at, used, node) => self.take_in(*at, *used, node)?,
+            Change::Set(at, node) => return self.set(*at, node),
+            Change::Come(at, used, node) => return self.take_in(*at, *used, node),
             Change::Gone(at) => self.leave_out(*at),
         }
         Ok(())
@@ -206,7 +208,9 @@ impl Board {
         ensures { IfOk result (λ rows. map shown (arc_value rows).items ≡ rows_shown self.now) }
     {
         let rows = self.rows_now(before)?;
-        let shared = Arc::new(self.alloc, rows).map_err(AllocError::from)?;
+        let Ok(shared) = Arc::new(self.alloc, rows) else {
+            return Err(NoMemory);
+        };
         Ok(shared)
     }
 
@@ -245,13 +249,45 @@ impl Board {
     fn show_anew(&self) -> Result<Vec<Row>, NoMemory>
         ensures { IfOk result (λ rows. map shown rows.items ≡ rows_shown self.now) }
     {
-        let mut rows = Vec::with_capacity(self.alloc, self.nodes.len())?;
+        let Ok(mut rows) = Vec::with_capacity(self.alloc, self.nodes.len()) else {
+            return Err(NoMemory);
+        };
         for (at, node) in self.nodes.iter().enumerate() {
             let used = self.used[at];
-            let node = node.share()?;
-            rows.push(Row::new(node, used)).map_err(AllocError::from)?;
+            let Ok(node) = node.share() else {
+                return Err(NoMemory);
+            };
+            let Ok(()) = rows.push(Row::new(node, used)) else {
+                return Err(NoMemory);
+            };
         }
         Ok(rows)
+    }
+}
+
+// By hand, so that who drops a board calls this, and its parts' drops are proved here alone.
+impl Drop for Board {
+    fn drop(self) {
+        let Self {
+            alloc: _,
+            nodes: _nodes,
+            used: _used,
+            room: _,
+            calls: _,
+            prefix: _prefix,
+        } = self;
+    }
+}
+
+// By hand too, as the board's.
+impl Drop for Order {
+    fn drop(self) {
+        let Self {
+            change: _change,
+            pass: _,
+            calls: _,
+            prefix: _prefix,
+        } = self;
     }
 }
 

@@ -44,7 +44,9 @@ impl Class {
         let mut worths = Vec::with_capacity(alloc, rows.len())?;
         let mut all_plain = true;
         for row in rows {
-            worths.push(worth(row, request))?;
+            let Ok(()) = worths.push(worth(row, request)) else {
+                return Err(AllocError);
+            };
             all_plain = all_plain && row.is_plain();
         }
         Ok(Class {

@@ -143,7 +143,11 @@ impl<J: Naming> Desk<J> {
     {
         let mut place = self.held(rt);
         let answer = match place.take() {
-            None => Err(NoMemory),
+            None => {
+                // (dropped by a call, whose proof stands elsewhere)
+                drop(step);
+                Err(NoMemory)
+            }
             Some(held) => {
                 let (held, answer) = held.apply(rt, &self.head, self.handed, pass, step);
                 put_back(rt, &mut *place, held);
@@ -163,7 +167,10 @@ impl<J: Naming> Desk<J> {
         ensures used_up { MAX_CALLS ≤ pass.old.caller.calls → IsErr result }
         ensures err { OnErr result (pass.new ≡ pass.old) }
     {
-        match self.apply(rt, pass, Step::Pop)? {
+        let Ok(reply) = self.apply(rt, pass, Step::Pop) else {
+            return Err(NoMemory);
+        };
+        match reply {
             Reply::Popped(pod) => Ok(Some(pod)),
             _ => Ok(None),
         }
@@ -186,7 +193,10 @@ impl<J: Naming> Desk<J> {
         ensures used_up { MAX_CALLS ≤ pass.old.caller.calls → IsErr result }
         ensures err { OnErr result (pass.new ≡ pass.old) }
     {
-        match self.apply(rt, pass, Step::Assume { uid, node })? {
+        let Ok(reply) = self.apply(rt, pass, Step::Assume { uid, node }) else {
+            return Err(NoMemory);
+        };
+        match reply {
             Reply::Ticket(ticket) => Ok(Ok(ticket)),
             Reply::Refused(why) => Ok(Err(why)),
             _ => unreachable!(),
@@ -203,7 +213,10 @@ impl<J: Naming> Desk<J> {
         ensures used_up { MAX_CALLS ≤ pass.old.caller.calls → IsErr result }
         ensures err { OnErr result (pass.new ≡ pass.old) }
     {
-        match self.apply(rt, pass, Step::Count)? {
+        let Ok(reply) = self.apply(rt, pass, Step::Count) else {
+            return Err(NoMemory);
+        };
+        match reply {
             Reply::Counts(counts) => Ok(counts),
             _ => unreachable!(),
         }

@@ -1,6 +1,6 @@
 //! The state of a desk, and each step on it. It has one owner: what passes share it by is a lock,
 //! and a board for looks.
-ghost use Rattle.std.specs.Prelude.{◌≡◌, ◌≢◌, ◌≤◌, ◌<◌, ◌+◌, ℕ, map, IfOk, IfSome, IsErr, IsSome, MatchResult, slice_index};
+ghost use Rattle.std.specs.Prelude.{◌≡◌, ◌≢◌, ◌≤◌, ◌<◌, ◌+◌, ℕ, map, IfOk, IfSome, IsErr, IsSome, slice_index};
 ghost use Rattle.std.specs.Bool.{IsTrue};
 ghost use Rattle.book.specs.Expiry.{any_expired, without_expired};
 ghost use Rattle.desk.specs.Machine.{after_expiry};
@@ -49,9 +49,9 @@ impl Model for Core {
 impl Core {
     ghost use Rattle.desk.specs.Caller.{IsTimely};
     ghost use Rattle.desk.specs.inside.Caller.{new_core, with_state, handed_by};
-    ghost use Rattle.desk.specs.Machine.{step, entry_for, counts, reply, after, snapshot};
+    ghost use Rattle.desk.specs.Machine.{entry_for, counts, reply, after, snapshot};
     ghost use Rattle.desk.specs.Machine as machine;
-    ghost use Rattle.desk.specs.inside.Done.{IsDone, IsSaid};
+    ghost use Rattle.desk.specs.inside.Done.{IsSaid};
     ghost use Rattle.queue.specs.Queue.{has_entry, after_remove};
     ghost use Rattle.queue.specs.Queue as queue;
 
@@ -80,32 +80,39 @@ impl Core {
     }
 
     // A node's row is set, and there is a move.
-    fn set_node(&mut self, version: Version, node: SharedNode) -> Result<Reply, Refusal>
-        ensures { IsDone self.old (step self.old.state 0 (Step.Event (Event.NodeSet version node))) result self.new }
+    fn set_node(&mut self, version: Version, node: SharedNode) -> Reply
+        ensures { IsSaid self.old 0 (Step.Event (Event.NodeSet version node)) result self.new }
     {
-        self.book.set_node(version, node)?;
+        if let Err(why) = self.book.set_node(version, node) {
+            return Reply::Refused(why);
+        }
         self.queue.move_all(self.clock);
-        Ok(Reply::Done)
+        Reply::Done
     }
 
     // A node is gone, and there is no move.
-    fn drop_node(&mut self, version: Version, name: &Name) -> Result<Reply, Refusal>
-        ensures { IsDone self.old (step self.old.state 0 (Step.Event (Event.NodeGone version name.now))) result
-            self.new }
+    fn drop_node(&mut self, version: Version, name: &Name) -> Reply
+        ensures { IsSaid self.old 0 (Step.Event (Event.NodeGone version name.now)) result self.new }
     {
-        self.book.remove_node(version, name)?;
-        Ok(Reply::Done)
+        if let Err(why) = self.book.remove_node(version, name) {
+            return Reply::Refused(why);
+        }
+        Reply::Done
     }
 
     // A pod waits for a place: it has an entry from now on.
-    fn add_pod(&mut self, version: Version, pod: SharedPod) -> Result<Reply, Refusal>
-        ensures { IsDone self.old (step self.old.state 0 (Step.Event (Event.PodPending version pod))) result self.new }
+    fn add_pod(&mut self, version: Version, pod: SharedPod) -> Reply
+        ensures { IsSaid self.old 0 (Step.Event (Event.PodPending version pod)) result self.new }
     {
         let queued = self.queue.has(&pod.uid);
         let queue_full = self.queue.is_full();
-        let pod = self.book.await_pod(version, pod, queued, queue_full)?;
-        let _ = self.queue.add(pod, self.clock);
-        Ok(Reply::Done)
+        match self.book.await_pod(version, pod, queued, queue_full) {
+            Ok(pod) => {
+                let _ = self.queue.add(pod, self.clock);
+                Reply::Done
+            }
+            Err(why) => Reply::Refused(why),
+        }
     }
 
     // A pod's entry goes, if there is one.
@@ -120,35 +127,32 @@ impl Core {
     }
 
     // A pod is bound: it is there, in place of where it was, and its entry goes.
-    fn bind_pod(
-        &mut self,
-        version: Version,
-        uid: Name,
-        node: Name,
-        request: Request,
-    ) -> Result<Reply, Refusal>
-        ensures { IsDone self.old (step self.old.state 0 (Step.Event (Event.PodBound version uid node request))) result
-            self.new }
+    fn bind_pod(&mut self, version: Version, uid: Name, node: Name, request: Request) -> Reply
+        ensures { IsSaid self.old 0 (Step.Event (Event.PodBound version uid node request)) result self.new }
     {
         let bound = uid.copied();
         let queued = self.queue.has(&uid);
-        self.book.bind_pod(version, uid, node, request)?;
+        if let Err(why) = self.book.bind_pod(version, uid, node, request) {
+            return Reply::Refused(why);
+        }
         self.unqueue(queued, &bound);
-        Ok(Reply::Done)
+        Reply::Done
     }
 
     // A pod is gone: its place and its entry go, with a move if it had a place.
-    fn drop_pod(&mut self, version: Version, uid: &Name) -> Result<Reply, Refusal>
-        ensures { IsDone self.old (step self.old.state 0 (Step.Event (Event.PodGone version uid.now))) result self.new }
+    fn drop_pod(&mut self, version: Version, uid: &Name) -> Reply
+        ensures { IsSaid self.old 0 (Step.Event (Event.PodGone version uid.now)) result self.new }
     {
         let was_placed = self.book.is_placed(uid);
         let queued = self.queue.has(uid);
-        self.book.remove_pod(version, uid, queued)?;
+        if let Err(why) = self.book.remove_pod(version, uid, queued) {
+            return Reply::Refused(why);
+        }
         self.queue.remove(uid);
         if was_placed {
             self.queue.move_all(self.clock);
         }
-        Ok(Reply::Done)
+        Reply::Done
     }
 
     // What the queue has of a pod that a pass wants to place.
@@ -163,69 +167,75 @@ impl Core {
     }
 
     // A pod that the pass popped is assumed on a node, and its entry stays in flight.
-    fn assume(&mut self, pass: usize, uid: Name, node: Name) -> Result<Reply, Refusal>
-        ensures { IsDone self.old (step self.old.state pass (Step.Assume uid node)) result self.new }
+    fn assume(&mut self, pass: usize, uid: Name, node: Name) -> Reply
+        ensures { IsSaid self.old pass (Step.Assume uid node) result self.new }
     {
         let entry = self.entry_of(PassNumber(pass as u64), &uid);
-        let ticket = self.book.assume(uid, node, entry)?;
-        Ok(Reply::Ticket(ticket))
+        match self.book.assume(uid, node, entry) {
+            Ok(ticket) => Reply::Ticket(ticket),
+            Err(why) => Reply::Refused(why),
+        }
     }
 
     // An assumed place is marked as finished now.
-    fn finish_bind(&mut self, uid: &Name, ticket: Ticket) -> Result<Reply, Refusal>
-        ensures { IsDone self.old (step self.old.state 0 (Step.BindDone uid.now ticket)) result self.new }
+    fn finish_bind(&mut self, uid: &Name, ticket: Ticket) -> Reply
+        ensures { IsSaid self.old 0 (Step.BindDone uid.now ticket) result self.new }
     {
         let queued = self.queue.has(uid);
-        self.book.finish(uid, ticket, self.clock, queued)?;
-        Ok(Reply::Done)
+        if let Err(why) = self.book.finish(uid, ticket, self.clock, queued) {
+            return Reply::Refused(why);
+        }
+        Reply::Done
     }
 
     // An assumed place is given up: its entry backs off, and there is a move.
-    fn forget(&mut self, uid: &Name, ticket: Ticket) -> Result<Reply, Refusal>
-        ensures { IsDone self.old (step self.old.state 0 (Step.Forget uid.now ticket)) result self.new }
+    fn forget(&mut self, uid: &Name, ticket: Ticket) -> Reply
+        ensures { IsSaid self.old 0 (Step.Forget uid.now ticket) result self.new }
     {
         let queued = self.queue.has(uid);
-        self.book.forget(uid, ticket, queued)?;
+        if let Err(why) = self.book.forget(uid, ticket, queued) {
+            return Reply::Refused(why);
+        }
         let _ = self.queue.forget_back(uid, self.clock);
         self.queue.move_all(self.clock);
-        Ok(Reply::Done)
+        Reply::Done
     }
 
     // A pass gives a pod back that it popped and found no place for.
     #[tactic(auto, unfolding(queue::specs::Queue::refusal_to_fail, queue::specs::Queue::after_fail))]
-    fn fail(&mut self, pass: usize, uid: Name, how: Failure) -> Result<Reply, Refusal>
-        ensures { IsDone self.old (step self.old.state pass (Step.Fail uid how)) result self.new }
+    fn fail(&mut self, pass: usize, uid: Name, how: Failure) -> Reply
+        ensures { IsSaid self.old pass (Step.Fail uid how) result self.new }
     {
         if self.book.is_placed(&uid) {
-            return Err(Refusal::Placed);
+            return Reply::Refused(Refusal::Placed);
         }
         if !self.queue.has(&uid) {
-            return Err(Refusal::Gone);
+            return Reply::Refused(Refusal::Gone);
         }
         match self
             .queue
             .fail(&uid, PassNumber(pass as u64), how, self.clock)
         {
-            Ok(()) => Ok(Reply::Done),
-            Err(_) => Err(Refusal::NotInFlight),
+            Ok(()) => Reply::Done,
+            Err(_) => Reply::Refused(Refusal::NotInFlight),
         }
     }
 
     // Time goes on to this moment: what expires goes, with a move if anything does, and what waited
     // long enough is active.
-    fn tick(&mut self, now: Moment) -> Result<Reply, Refusal>
+    fn tick(&mut self, now: Moment) -> Reply
         requires { now.0 ≤ LATEST_MOMENT }
-        ensures { IsDone self.old (step self.old.state 0 (Step.Tick now)) result self.new }
+        ensures { IsSaid self.old 0 (Step.Tick now) result self.new }
     {
         if now < self.clock {
-            return Err(Refusal::ClockBack);
+            return Reply::Refused(Refusal::ClockBack);
         }
         self.clock = now;
         if expire_all(&mut self.book, &mut self.queue, now) {
             self.queue.move_all(now);
         }
         self.queue.tick(now);
-        Ok(Reply::Done)
+        Reply::Done
     }
 
     // One more owner of the pod that a step hands out, if it hands one out.
@@ -238,7 +248,10 @@ impl Core {
         }
         match self.queue.peek() {
             None => Ok(None),
-            Some(first) => Ok(Some(first.share()?)),
+            Some(first) => match first.share() {
+                Ok(pod) => Ok(Some(pod)),
+                Err(_) => Err(NoMemory),
+            },
         }
     }
 
@@ -264,15 +277,15 @@ impl Core {
     {
         match step {
             Step::Pop => self.pop(pass, first),
-            other => said(self.take_step(pass, other)),
+            other => self.take_step(pass, other),
         }
     }
 
     // Does a step for a pass that hands out no pod, or refuses it. No call is counted.
-    fn take_step(&mut self, pass: usize, asked: Step) -> Result<Reply, Refusal>
+    fn take_step(&mut self, pass: usize, asked: Step) -> Reply
         requires timely { IsTimely asked }
         requires other { asked ≢ Step.Pop }
-        ensures { IsDone self.old (step self.old.state pass asked) result self.new }
+        ensures { IsSaid self.old pass asked result self.new }
     {
         match asked {
             Step::Event(event) => self.take_event(event),
@@ -281,14 +294,14 @@ impl Core {
             Step::Forget { uid, ticket } => self.forget(&uid, ticket),
             Step::Fail { uid, how } => self.fail(pass, uid, how),
             Step::Tick(now) => self.tick(now),
-            Step::Count => Ok(Reply::Counts(self.counts())),
+            Step::Count => Reply::Counts(self.counts()),
             Step::Pop => unreachable!(),
         }
     }
 
     // Takes what the watch tells, or refuses it.
-    fn take_event(&mut self, event: Event) -> Result<Reply, Refusal>
-        ensures { IsDone self.old (step self.old.state 0 (Step.Event event)) result self.new }
+    fn take_event(&mut self, event: Event) -> Reply
+        ensures { IsSaid self.old 0 (Step.Event event) result self.new }
     {
         match event {
             Event::NodeSet { version, node } => self.set_node(version, node),
@@ -362,14 +375,4 @@ fn expire_all(book: &mut Book, queue: &mut Queue, now: Moment) -> bool
         any = true;
     }
     any
-}
-
-// What there is to say of a step that was done or refused.
-fn said(done: Result<Reply, Refusal>) -> Reply
-    ensures { MatchResult done (λ reply. result ≡ reply) (λ why. result ≡ Reply.Refused why) }
-{
-    match done {
-        Ok(reply) => reply,
-        Err(why) => Reply::Refused(why),
-    }
 }

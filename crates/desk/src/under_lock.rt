@@ -132,7 +132,9 @@ fn new_core(alloc: Global, keys: RandomState, limits: Limits) -> Result<Box<Core
     ensures { IfOk result (λ core. core.value ≡ new_core limits) }
 {
     let core = Core::new(alloc, keys, limits)?;
-    let core = Box::new(alloc, core).map_err(AllocError::from)?;
+    let Ok(core) = Box::new(alloc, core) else {
+        return Err(NoMemory);
+    };
     Ok(core)
 }
 
@@ -151,7 +153,9 @@ fn new_writer<J: Naming>(
 {
     let first = Board::new(alloc, limits, nothing)?;
     let second = Board::new(alloc, limits, nothing)?;
-    let writer = Writer::new(alloc, first, second, readers)?;
+    let Ok(writer) = Writer::new(alloc, first, second, readers) else {
+        return Err(NoMemory);
+    };
     Ok(writer)
 }
 
@@ -334,7 +338,11 @@ impl<J: Naming> UnderLock<J> {
     {
         let mut held = self;
         match held.get_ready(head, handed, pass, &step) {
-            Err(no_memory) => (held, Err(no_memory)),
+            Err(no_memory) => {
+                // (dropped by a call, whose proof stands elsewhere)
+                drop(step);
+                (held, Err(no_memory))
+            }
             Ok(
                 Ready {
                     prefix,

@@ -39,7 +39,9 @@ impl Core {
         if !self.book.expires(now) {
             return Ok(Subject::Nothing);
         }
-        let used = Vec::with_capacity(self.alloc, self.book.rows().len())?;
+        let Ok(used) = Vec::with_capacity(self.alloc, self.book.rows().len()) else {
+            return Err(NoMemory);
+        };
         Ok(Subject::All(used))
     }
 

@@ -15,6 +15,6 @@ new-requires-3-clause-rule g c =
 -- and that is published
 pub returns-clause-shown : goal.returns-clause-shown
 returns-clause-shown g c =
-    c.in_ok-writer.ensures.0 ∙ c.in_ok-first.ensures
+    c.in-Ok.ensures.0 ∙ c.in_ok-first.ensures
     ∙ (λ i. record { nodes = []; used = []; room = (c.requires.limits i).nodes; calls = replicate MAX_PASSES 0; prefix = c.requires.nothing i })
     ∙ first_board g.J.Naming.book g.J.Naming.limits

@@ -22,11 +22,11 @@ loop-at-preserved c =
     let total : c.index-used.result.now ≡ get_or b.used at nothing =
     c.index-used.ensures ∙ get_or_default c.self.inside.used.items at c.index-used.result.now nothing (omega (arith, lt, long, ap (λ (y : Board). length y.used) c.self.view_is)) ∙ ap (λ (y : Board). get_or y.used at nothing) c.self.view_is in
     let row : Row = c.new.result in
-    let pushed : is_ok c.push.result ≡ true = sym c.map_err.ensures.variant ∙ ap is_ok c.in_ok-map_err.was in
+    let pushed : is_ok c.push.result ≡ true = ap is_ok c.in-Ok-push.is in
     let rows : c.push.new.self.items ≡ c.loop-at.rows.items ++ row ∷ [] = rw pushed at c.push.ensures.items in
     ap (map shown) rows ∙ map_push shown c.loop-at.rows.items row
     ∙ ap (λ (s : Shown). map shown c.loop-at.rows.items ++ s ∷ []) c.new.ensures
-    ∙ ap (λ (n : Node). map shown c.loop-at.rows.items ++ record { node = n; used = c.index-used.result.now } ∷ []) c.in_ok-node.ensures
+    ∙ ap (λ (n : Node). map shown c.loop-at.rows.items ++ record { node = n; used = c.index-used.result.now } ∷ []) c.in-Ok-share.ensures
     ∙ ap (λ (u : Res). map shown c.loop-at.rows.items ++ record { node = node; used = u } ∷ []) total
     ∙ ap (λ (l : List Shown). l ++ record { node = node; used = get_or b.used at nothing } ∷ []) c.loop-at.invariant
     ∙ sym (shown_more b.nodes b.used at node nothing long lt is)

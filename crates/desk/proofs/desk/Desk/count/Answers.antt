@@ -7,16 +7,13 @@ use Rattle.desk.proofs.desk.Desk.count.Goals as goal
 
 -- no other answer comes
 pub unreachable-requires : goal.unreachable-requires
-unreachable-requires g c = let gives = count_gives _ _ _ _ c.in_ok-counts.ensures.applied in c.in_default.not-Counts gives.0 gives.1
+unreachable-requires g c = let gives = count_gives _ _ _ _ c.in-Ok.ensures.applied in c.in_default-reply.not-Counts gives.0 gives.1
 
 pub apply-requires-clause-of : goal.apply-requires-clause-of
 apply-requires-clause-of g c = c.requires
 
 pub returns-clause-counted : goal.returns-clause-counted
-returns-clause-counted g c = subst (λ (r : Reply). IsApplied c.args.self.now c.args.pass.now Count r c.apply.new.pass) c.in-Counts.is c.in_ok-counts.ensures.applied
+returns-clause-counted g c = subst (λ (r : Reply). IsApplied c.args.self.now c.args.pass.now Count r c.apply.new.pass) c.in-Counts.is c.in-Ok.ensures.applied
 
 pub returns-clause-used_up : goal.returns-clause-used_up
-returns-clause-used_up g c = c.in_ok-counts.ensures.used_up
-
-pub returns-in_err-counts-clause-used_up : goal.returns-in_err-counts-clause-used_up
-returns-in_err-counts-clause-used_up g c = λ many. c.from_residual.ensures.0
+returns-clause-used_up g c = c.in-Ok.ensures.used_up
