@@ -10,7 +10,7 @@ use crate::ledger::Ledger;
 use book::NoMemory;
 use name_table::NameTable;
 use quant::Name;
-use std::alloc::{AllocError, Global};
+use std::alloc::Global;
 
 impl Ledger {
     /// The names of the objects of a kind that weren't told since its last list began, in the order
@@ -20,10 +20,10 @@ impl Ledger {
     pub fn unnamed(&self, alloc: Global, kind: Kind) -> Result<Vec<Name>, NoMemory>
         ensures { IfOk result (λ names. names.items ≡ unnamed self.now kind) }
     {
-        Ok(match kind {
-            Kind::Nodes => unnamed_in(alloc, &self.nodes, self.of_nodes.lists)?,
-            Kind::Pods => unnamed_in(alloc, &self.pods, self.of_pods.lists)?,
-        })
+        match kind {
+            Kind::Nodes => unnamed_in(alloc, &self.nodes, self.of_nodes.lists),
+            Kind::Pods => unnamed_in(alloc, &self.pods, self.of_pods.lists),
+        }
     }
 }
 
@@ -32,7 +32,7 @@ fn unnamed_in<V: Listed>(
     alloc: Global,
     table: &NameTable<V>,
     lists: u64,
-) -> Result<Vec<Name>, AllocError>
+) -> Result<Vec<Name>, NoMemory>
     ensures { IfOk result (λ names. names.items ≡ unnamed_in V.list lists (map_of table.now)) }
 {
     let _once = table.len();
@@ -42,7 +42,9 @@ fn unnamed_in<V: Listed>(
             continue;
         };
         if entry.value.list() != lists {
-            names.push(entry.name.copied())?;
+            let Ok(()) = names.push(entry.name.copied()) else {
+                return Err(NoMemory);
+            };
         }
     }
     names.sort_unstable();

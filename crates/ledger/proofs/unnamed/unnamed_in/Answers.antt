@@ -1,7 +1,7 @@
 use Rattle.std.proofs.Common.{refl, sym, ap, ◌∙◌}
 use Rattle.ledger.proofs.Omitted.{step, with_name, without_name, without_slot, all_in_order}
 use Rattle.ledger.proofs.unnamed.unnamed_in.Goals as goal
-use Rattle.ledger.proofs.unnamed.unnamed_in.Goals.{then-list-lists+in_ok-push, else-list-lists}
+use Rattle.ledger.proofs.unnamed.unnamed_in.Goals.{then-list-lists+in-Ok, else-list-lists}
 
 -- a free slot has no name
 pub loop-slot-preserved-in_default : goal.loop-slot-preserved-in_default
@@ -18,9 +18,9 @@ loop-slot-preserved g c =
     step g.V.Listed.list c.args.lists c.slots-slot-items.result.now c.loop-slot.slot-index c.slot-item.result names after c.loop-slot-test.true c.slot-item.is c.loop-slot.invariant
     (
     elim c.if-list-lists.branch [
-      | then-list-lists+in_ok-push w ↦
+      | then-list-lists+in-Ok w ↦
           with_name g.V.Listed.list c.args.lists names after c.slot-item.result c.in-Some.entry c.in-Some.is (λ same. w.if-list-lists.true (c.list.ensures ∙ same))
-          (let is = ap (λ (v : _). v.items) w.names-is in cc (w.in_ok-push.ensures.items, w.copied.ensures))
+          (let is = ap (λ (v : _). v.items) w.names-is in cc (w.in-Ok.ensures.items, w.copied.ensures))
       | else-list-lists w ↦
           without_name g.V.Listed.list c.args.lists names after c.slot-item.result c.in-Some.entry c.in-Some.is (sym c.list.ensures ∙ w.if-list-lists.false) (ap (λ (v : _). v.items) w.names-is)
     ]
