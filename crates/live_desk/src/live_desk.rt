@@ -9,7 +9,7 @@ ghost use Rattle.ledger.specs.State.{opening as ledger_opening};
 ghost use Rattle.ledger.specs.Told.{IsTold};
 ghost use Rattle.live_desk.specs.State.{given_back, node_gone, node_set, numbered, offer, offer_new, opening, pod_bound, pod_gone, steps, ticket_of, to_place, version_of, with_ticket, without};
 ghost use Rattle.live_desk.specs.Telling.{IsPending, IsTaken, bound_of, if_unknown, is_newest, left_out, names_of, put_aside, settled, takes, with_ledger};
-ghost use Rattle.live_desk.specs.inside.Change.{changed};
+ghost use Rattle.live_desk.specs.inside.Change.{change_of, changed};
 
 use crate::change::{Change, change_of};
 use crate::offered::Offered;
@@ -123,8 +123,10 @@ impl<J: Naming> LiveDesk<J> {
         requires { caller.IsTimely step }
         ensures { OnOk result (self.new ≡ steps self.old step) }
     {
-        self.answer_step(rt, step)?;
-        Ok(())
+        match self.answer_step(rt, step) {
+            Ok(_) => Ok(()),
+            Err(NoMemory) => Err(NoMemory),
+        }
     }
 
     // The number of the next event that the desk is told.
@@ -275,8 +277,7 @@ impl<J: Naming> LiveDesk<J> {
     pub fn tell<R: Wait>(&mut self, rt: &R, alloc: Global, event: Event) -> Result<Answer, NoMemory>
         ensures { IfOk result (λ answer. IsTaken self.old event answer self.new) }
     {
-        let names = self.names_of(alloc, &event)?;
-        let change = change_of(&event)?;
+        let (names, change) = self.get_ready(alloc, &event)?;
         let answer = self.alone(event);
         if !takes(answer) {
             return Ok(answer);
@@ -285,14 +286,17 @@ impl<J: Naming> LiveDesk<J> {
         Ok(answer)
     }
 
-    // The names that a list leaves out which ends by an event.
-    fn names_of(&self, alloc: Global, event: &Event) -> Result<Vec<Name>, NoMemory>
-        ensures { IfOk result (λ names. names.items ≡ names_of self.now.ledger event.now) }
+    // What the desk is told of an event, if the ledger takes it, with the names that a list leaves
+    // out which ends by it.
+    fn get_ready(&self, alloc: Global, event: &Event) -> Result<(Vec<Name>, Change), NoMemory>
+        ensures names { IfOk result (λ ready. ready.0.items ≡ names_of self.now.ledger event.now) }
+        ensures change { IfOk result (λ ready. ready.1 ≡ change_of event.now) }
     {
-        match event {
-            Event::ListEnds(kind) => self.ledger.unnamed(alloc, *kind),
-            _ => Ok(Vec::new(alloc)),
-        }
+        let names = match event {
+            Event::ListEnds(kind) => self.ledger.unnamed(alloc, *kind)?,
+            _ => Vec::new(alloc),
+        };
+        Ok((names, change_of(event)?))
     }
 
     // The ledger takes an event.
@@ -310,19 +314,13 @@ impl<J: Naming> LiveDesk<J> {
     {
         match change {
             Change::Nothing => Ok(()),
-            Change::LeftOut(kind) => {
-                self.leave_out(rt, kind, names)?;
-                Ok(())
-            }
+            Change::LeftOut(kind) => self.leave_out(rt, kind, names),
             Change::NodeSet(node) => self.set_node(rt, node),
             Change::NodeGone(name) => self.drop_node(rt, name),
             Change::Withheld(uid) => self.drop_unknown(rt, uid),
             Change::PodBound(uid, node, request) => self.bind_pod(rt, uid, node, request),
             Change::PodGone(uid) => self.drop_pod(rt, uid),
-            Change::Asked(pod, there) => {
-                self.count_bound(rt, pod, there)?;
-                Ok(())
-            }
+            Change::Asked(pod, there) => self.count_bound(rt, pod, there),
             Change::Settled(uid, place) => self.settle(rt, uid, place),
         }
     }
@@ -332,10 +330,11 @@ impl<J: Naming> LiveDesk<J> {
         ensures { OnOk result (self.new ≡ left_out self.old kind names.now) }
     {
         for name in names {
-            match kind {
-                Kind::Nodes => self.drop_node(rt, name.copied())?,
-                Kind::Pods => self.drop_pod(rt, name.copied())?,
-            }
+            let told = match kind {
+                Kind::Nodes => self.drop_node(rt, name.copied()),
+                Kind::Pods => self.drop_pod(rt, name.copied()),
+            };
+            told?;
         }
         Ok(())
     }

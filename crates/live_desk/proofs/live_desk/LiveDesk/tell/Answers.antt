@@ -11,5 +11,5 @@ returns-then-not-takes g c =
 pub returns : goal.returns
 returns g c =
     let took : takes c.alone-answer.result ≡ true = search rules in
-    let names = rw c.deref.ensures.value at c.in_ok-change-2.ensures in
-    taken _ _ _ _ _ c.alone-answer.ensures.told c.alone-answer.ensures.desk _ _ took c.in_ok-names.ensures c.in_ok-change.ensures names
+    let names = rw c.deref.ensures.value at c.in_ok-change.ensures in
+    taken _ _ _ _ _ c.alone-answer.ensures.told c.alone-answer.ensures.desk _ _ took c.in_ok-names.ensures.names c.in_ok-names.ensures.change names
