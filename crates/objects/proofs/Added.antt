@@ -3,7 +3,7 @@ use Rattle.std.proofs.Common.{◌≡◌, ℕ, suc, ◌+◌, ◌<◌, ◌≤◌, 
 use Rattle.std.proofs.Math.Seq.{drop-cons}
 use Rattle.std.proofs.lemmas.List.{drop_all}
 use Rattle.json.specs.Json.{Json}
-use Rattle.json.specs.Token.{Token, key, begin_array, end_array}
+use Rattle.json.specs.Token.{Token, begin_array, end_array}
 use Rattle.json.specs.Tree.{json_tokens, items_tokens}
 use Rattle.objects.specs.inside.Line.{items_json}
 
@@ -24,9 +24,9 @@ no_more_items : {A : Type 0} (f : A → Json) (xs : List A) (i : ℕ) (old new :
     → new ≡ old ++ items_tokens (items_json f (drop i xs))
 no_more_items f xs i old new h e = e ∙ ap (λ ys. old ++ items_tokens (items_json f ys)) (sym (drop_all i xs h))
 
--- an array in a field, from its key to its end
-pub array_told : {A : Type 0} (f : A → Json) (xs : List A) (i : ℕ) (name : List ℕ) (old named begun before new : List Token)
-    → named ≡ old ++ key name ∷ [] → begun ≡ named ++ begin_array ∷ []
+-- an array, from its beginning to its end
+pub array_told : {A : Type 0} (f : A → Json) (xs : List A) (i : ℕ) (old begun before new : List Token)
+    → begun ≡ old ++ begin_array ∷ []
     → begun ++ items_tokens (items_json f xs) ≡ before ++ items_tokens (items_json f (drop i xs)) → length xs ≤ i → new ≡ before ++ end_array ∷ []
-    → new ≡ old ++ key name ∷ begin_array ∷ items_tokens (items_json f xs)
-array_told f xs i name old named begun before new k b all h e = no_more_items f xs i before new h e ∙ sym all ∙ rw (b, k) (simp append_assoc)
+    → new ≡ old ++ begin_array ∷ items_tokens (items_json f xs)
+array_told f xs i old begun before new b all h e = no_more_items f xs i before new h e ∙ sym all ∙ rw b (simp append_assoc)

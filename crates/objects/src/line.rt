@@ -10,9 +10,7 @@ ghost use Rattle.objects.specs.inside.Events.{IsSayable};
 ghost use Rattle.objects.specs.Translation.{is_one_line};
 ghost use Rattle.objects.specs.inside.Added.{Adds};
 
-use crate::line_field::{
-    put_amounts, put_flag, put_items, put_number, put_priority, put_request, put_text,
-};
+use crate::line_field::{Field, put_object};
 use json::Writer;
 use quant::{Event, Name, Node, Pod, Request, Version};
 use std::alloc::{AllocError, Global};
@@ -37,7 +35,7 @@ fn write_event(alloc: Global, writer: &mut Writer, event: &Event) -> Result<(), 
 {
     match event {
         Event::NodeSet { version, node } => write_node(alloc, writer, *version, node),
-        Event::NodeGone { version, name } => write_named(writer, "gone", *version, "name", name),
+        Event::NodeGone { version, name } => write_named(alloc, writer, "gone", *version, "name", name),
         Event::PodPending { version, pod } => write_pod(alloc, writer, *version, pod),
         Event::PodBound {
             version,
@@ -45,26 +43,8 @@ fn write_event(alloc: Global, writer: &mut Writer, event: &Event) -> Result<(), 
             node,
             request,
         } => write_bound(alloc, writer, *version, uid, node, request),
-        Event::PodGone { version, uid } => write_named(writer, "deleted", *version, "uid", uid),
+        Event::PodGone { version, uid } => write_named(alloc, writer, "deleted", *version, "uid", uid),
     }
-}
-
-// Begins a line: its operation, its version, and the name of what it tells of.
-fn put_head(
-    writer: &mut Writer,
-    op: &str,
-    version: Version,
-    field: &str,
-    name: &Name,
-) -> Result<(), AllocError>
-    ensures { Adds result writer.old writer.new
-        (begin_object ∷ key (codes "op") ∷ string op.now ∷ key (codes "v") ∷ number (decimal version.0)
-        ∷ key field.now ∷ string name.now ∷ []) }
-{
-    writer.begin_object()?;
-    put_text(writer, "op", op)?;
-    put_number(writer, "v", version.0)?;
-    put_text(writer, field, name.as_str())
 }
 
 // Writes a node's row.
@@ -76,13 +56,21 @@ fn write_node(
 ) -> Result<(), AllocError>
     ensures { Adds result writer.old writer.new (json_tokens (line_json (NodeSet version node.now))) }
 {
-    put_head(writer, "node", version, "name", &node.name)?;
-    put_amounts(alloc, writer, node.allocatable.cpu, node.allocatable.mem)?;
-    put_number(writer, "pods", node.allocatable.pods as u64)?;
-    put_items(writer, "labels", node.labels.as_slice())?;
-    put_items(writer, "taints", node.taints.as_slice())?;
-    put_flag(writer, "unschedulable", node.unschedulable)?;
-    writer.end_object()
+    put_object(
+        alloc,
+        writer,
+        &[
+            ("op", Field::Text("node")),
+            ("v", Field::Number(version.0)),
+            ("name", Field::Text(node.name.as_str())),
+            ("cpu", Field::Cpu(node.allocatable.cpu)),
+            ("mem", Field::Memory(node.allocatable.mem)),
+            ("pods", Field::Number(u64::from(node.allocatable.pods))),
+            ("labels", Field::Labels(node.labels.as_slice())),
+            ("taints", Field::Taints(node.taints.as_slice())),
+            ("unschedulable", Field::Flag(node.unschedulable)),
+        ],
+    )
 }
 
 // Writes the row of a pod that waits.
@@ -94,44 +82,67 @@ fn write_pod(
 ) -> Result<(), AllocError>
     ensures { Adds result writer.old writer.new (json_tokens (line_json (PodPending version pod.now))) }
 {
-    put_head(writer, "pod", version, "uid", &pod.uid)?;
-    put_priority(writer, pod)?;
-    put_request(alloc, writer, &pod.request)?;
-    put_items(writer, "labels", pod.labels.as_slice())?;
-    put_items(writer, "tolerations", pod.tolerations.as_slice())?;
-    writer.end_object()
+    put_object(
+        alloc,
+        writer,
+        &[
+            ("op", Field::Text("pod")),
+            ("v", Field::Number(version.0)),
+            ("uid", Field::Text(pod.uid.as_str())),
+            ("priority", Field::Signed(pod.priority)),
+            ("containers", Field::Request(&pod.request)),
+            ("labels", Field::Labels(pod.labels.as_slice())),
+            ("tolerations", Field::Tolerations(pod.tolerations.as_slice())),
+        ],
+    )
 }
 
 // Writes a pod's place.
-fn write_bound(
+fn write_bound<'a>(
     alloc: Global,
     writer: &mut Writer,
     version: Version,
-    uid: &Name,
-    node: &Name,
+    uid: &'a Name,
+    node: &'a Name,
     request: &Request,
 ) -> Result<(), AllocError>
     ensures { Adds result writer.old writer.new
         (json_tokens (line_json (PodBound version uid.now node.now request.now))) }
 {
-    put_head(writer, "bound", version, "uid", uid)?;
-    put_text(writer, "node", node.as_str())?;
-    put_amounts(alloc, writer, request.cpu, request.mem)?;
-    writer.end_object()
+    put_object(
+        alloc,
+        writer,
+        &[
+            ("op", Field::Text("bound")),
+            ("v", Field::Number(version.0)),
+            ("uid", Field::Text(uid.as_str())),
+            ("node", Field::Text(node.as_str())),
+            ("cpu", Field::Cpu(request.cpu)),
+            ("mem", Field::Memory(request.mem)),
+        ],
+    )
 }
 
 // Writes that something is gone, by its name under this key.
-fn write_named(
+fn write_named<'a>(
+    alloc: Global,
     writer: &mut Writer,
-    op: &str,
+    op: &'a str,
     version: Version,
     under: &str,
-    name: &Name,
+    name: &'a Name,
 ) -> Result<(), AllocError>
     ensures { Adds result writer.old writer.new
         (begin_object ∷ key (codes "op") ∷ string op.now ∷ key (codes "v") ∷ number (decimal version.0)
         ∷ key under.now ∷ string name.now ∷ end_object ∷ []) }
 {
-    put_head(writer, op, version, under, name)?;
-    writer.end_object()
+    put_object(
+        alloc,
+        writer,
+        &[
+            ("op", Field::Text(op)),
+            ("v", Field::Number(version.0)),
+            (under, Field::Text(name.as_str())),
+        ],
+    )
 }

@@ -1,97 +1,83 @@
 //! The fields of a line.
-ghost use Rattle.std.specs.Prelude.{◌≡◌, [], ◌∷◌, codes, decimal};
-ghost use Rattle.std.specs.Fmt.{signed_decimal};
+ghost use Rattle.std.specs.Prelude.{◌≡◌, [], ◌∷◌};
 ghost use Rattle.json.specs.Json.{Json, array};
-ghost use Rattle.json.specs.Token.{key, string, number, boolean, begin_array, end_array};
-ghost use Rattle.json.specs.Tree.{json_tokens, items_tokens};
-ghost use Rattle.objects.specs.inside.Line.{cpu_text, memory_text, effect_text, optional_effect_text, operator_text, label_json, taint_json, toleration_json, request_json, items_json};
+ghost use Rattle.json.specs.Token.{string};
+ghost use Rattle.json.specs.Tree.{json_tokens};
+ghost use Rattle.objects.specs.inside.Line.{cpu_text, effect_text, optional_effect_text, operator_text, label_json, taint_json, toleration_json, request_json, items_json};
 ghost use Rattle.objects.specs.inside.Added.{Adds};
+ghost use Rattle.objects.specs.inside.Fields.{field_json, fields_json};
 
 use itoa::Buffer;
 use json::Writer;
-use quant::{Bytes, Cpu, Effect, Label, Operator, Pod, Request, Taint, Toleration};
+use quant::{Bytes, Cpu, Effect, Label, Operator, Request, Taint, Toleration};
 use std::alloc::{AllocError, Global};
 
-// A text.
-pub(crate) fn put_text(writer: &mut Writer, name: &str, text: &str) -> Result<(), AllocError>
-    ensures { Adds result writer.old writer.new (key name.now ∷ string text.now ∷ []) }
-{
-    writer.key(name)?;
-    writer.string(text)
+/// What a field of a line says.
+#[derive(Clone, Copy)]
+pub(crate) enum Field<'a> {
+    /// A text.
+    Text(&'a str),
+    /// A number.
+    Number(u64),
+    /// A number that may be below 0.
+    Signed(i32),
+    /// Yes or no.
+    Flag(bool),
+    /// An amount of CPU.
+    Cpu(Cpu),
+    /// An amount of memory.
+    Memory(Bytes),
+    /// What a pod asks for, as the one container that asks for all of it.
+    Request(&'a Request),
+    /// A row's labels.
+    Labels(&'a [Label]),
+    /// A node's taints.
+    Taints(&'a [Taint]),
+    /// A pod's tolerations.
+    Tolerations(&'a [Toleration]),
 }
 
-// A number.
-pub(crate) fn put_number(writer: &mut Writer, name: &str, n: u64) -> Result<(), AllocError>
-    ensures { Adds result writer.old writer.new (key name.now ∷ number (decimal n) ∷ []) }
-{
-    writer.key(name)?;
-    writer.u64(n)
-}
-
-// A pod's priority.
-pub(crate) fn put_priority(writer: &mut Writer, pod: &Pod) -> Result<(), AllocError>
-    ensures { Adds result writer.old writer.new
-        (key (codes "priority") ∷ number (signed_decimal pod.now.priority) ∷ []) }
-{
-    writer.key("priority")?;
-    writer.i64(i64::from(pod.priority))
-}
-
-// Yes or no.
-pub(crate) fn put_flag(writer: &mut Writer, name: &str, flag: bool) -> Result<(), AllocError>
-    ensures { Adds result writer.old writer.new (key name.now ∷ boolean flag ∷ []) }
-{
-    writer.key(name)?;
-    writer.boolean(flag)
-}
-
-// An amount of CPU and one of memory.
-pub(crate) fn put_amounts(
+// An object of these fields.
+pub(crate) fn put_object(
     alloc: Global,
     writer: &mut Writer,
-    cpu: Cpu,
-    mem: Bytes,
+    fields: &[(&str, Field<'_>)],
 ) -> Result<(), AllocError>
-    ensures { Adds result writer.old writer.new
-        (key (codes "cpu") ∷ string (cpu_text cpu) ∷ key (codes "mem") ∷ string (memory_text mem) ∷ []) }
+    ensures { Adds result writer.old writer.new (json_tokens (fields_json (λ f. f.0.now) (λ f. f.1) fields.now)) }
 {
-    put_cpu(alloc, writer, cpu)?;
-    writer.key("mem")?;
-    writer.quoted_u64(mem.0)
+    writer.begin_object()?;
+    for (name, field) in fields {
+        writer.key(name)?;
+        put_field(alloc, writer, field)?;
+    }
+    writer.end_object()
+}
+
+// What a field says.
+fn put_field(alloc: Global, writer: &mut Writer, field: &Field<'_>) -> Result<(), AllocError>
+    ensures { Adds result writer.old writer.new (json_tokens (field_json field.now)) }
+{
+    match field {
+        Field::Text(text) => writer.string(text),
+        Field::Number(n) => writer.u64(*n),
+        Field::Signed(n) => writer.i64(i64::from(*n)),
+        Field::Flag(flag) => writer.boolean(*flag),
+        Field::Cpu(cpu) => put_cpu(alloc, writer, *cpu),
+        Field::Memory(mem) => writer.quoted_u64(mem.0),
+        Field::Request(request) => put_items(alloc, writer, &[**request]),
+        Field::Labels(labels) => put_items(alloc, writer, labels),
+        Field::Taints(taints) => put_items(alloc, writer, taints),
+        Field::Tolerations(tolerations) => put_items(alloc, writer, tolerations),
+    }
 }
 
 // Thousandths of a core, as the API spells them.
 fn put_cpu(alloc: Global, writer: &mut Writer, cpu: Cpu) -> Result<(), AllocError>
-    ensures { Adds result writer.old writer.new (key (codes "cpu") ∷ string (cpu_text cpu) ∷ []) }
+    ensures { Adds result writer.old writer.new (string (cpu_text cpu) ∷ []) }
 {
     let thousandths = cpu.0;
     let text = format!(in alloc; "{thousandths}m")?;
-    put_text(writer, "cpu", text.as_str())
-}
-
-// What a pod asks for, as the one container that asks for all of it.
-pub(crate) fn put_request(
-    alloc: Global,
-    writer: &mut Writer,
-    request: &Request,
-) -> Result<(), AllocError>
-    ensures { Adds result writer.old writer.new
-        (key (codes "containers") ∷ begin_array ∷ items_tokens (items_json request_json (request.now ∷ []))) }
-{
-    writer.key("containers")?;
-    writer.begin_array()?;
-    put_container(alloc, writer, request)?;
-    writer.end_array()
-}
-
-// That container.
-fn put_container(alloc: Global, writer: &mut Writer, request: &Request) -> Result<(), AllocError>
-    ensures { Adds result writer.old writer.new (json_tokens (request_json request.now)) }
-{
-    let thousandths = request.cpu.0;
-    let cpu = format!(in alloc; "{thousandths}m")?;
-    let mut digits = Buffer::new();
-    put_texts(writer, &[cpu.as_str(), digits.format(request.mem.0)])
+    writer.string(text.as_str())
 }
 
 // What stands in an array of a line, one a place.
@@ -100,23 +86,17 @@ pub(crate) trait Item {
     ghost json: { Self → Json };
 
     // Writes it.
-    fn put(&self, writer: &mut Writer) -> Result<(), AllocError>
+    fn put(&self, alloc: Global, writer: &mut Writer) -> Result<(), AllocError>
         ensures { Adds result writer.old writer.new (json_tokens (json self.now)) };
 }
 
 // An array, with an item for each of these.
-pub(crate) fn put_items<T: Item>(
-    writer: &mut Writer,
-    name: &str,
-    items: &[T],
-) -> Result<(), AllocError>
-    ensures { Adds result writer.old writer.new
-        (key name.now ∷ begin_array ∷ items_tokens (items_json T.json items.now)) }
+fn put_items<T: Item>(alloc: Global, writer: &mut Writer, items: &[T]) -> Result<(), AllocError>
+    ensures { Adds result writer.old writer.new (json_tokens (array (items_json T.json items.now))) }
 {
-    writer.key(name)?;
     writer.begin_array()?;
     for item in items {
-        item.put(writer)?;
+        item.put(alloc, writer)?;
     }
     writer.end_array()
 }
@@ -133,10 +113,21 @@ fn put_texts(writer: &mut Writer, items: &[&str]) -> Result<(), AllocError>
     writer.end_array()
 }
 
+impl Item for Request {
+    ghost json = { request_json };
+
+    fn put(&self, alloc: Global, writer: &mut Writer) -> Result<(), AllocError> {
+        let thousandths = self.cpu.0;
+        let cpu = format!(in alloc; "{thousandths}m")?;
+        let mut digits = Buffer::new();
+        put_texts(writer, &[cpu.as_str(), digits.format(self.mem.0)])
+    }
+}
+
 impl Item for Label {
     ghost json = { label_json };
 
-    fn put(&self, writer: &mut Writer) -> Result<(), AllocError> {
+    fn put(&self, _alloc: Global, writer: &mut Writer) -> Result<(), AllocError> {
         put_texts(writer, &[self.key.as_str(), self.value.as_str()])
     }
 }
@@ -144,7 +135,7 @@ impl Item for Label {
 impl Item for Taint {
     ghost json = { taint_json };
 
-    fn put(&self, writer: &mut Writer) -> Result<(), AllocError> {
+    fn put(&self, _alloc: Global, writer: &mut Writer) -> Result<(), AllocError> {
         put_texts(
             writer,
             &[
@@ -159,7 +150,7 @@ impl Item for Taint {
 impl Item for Toleration {
     ghost json = { toleration_json };
 
-    fn put(&self, writer: &mut Writer) -> Result<(), AllocError> {
+    fn put(&self, _alloc: Global, writer: &mut Writer) -> Result<(), AllocError> {
         put_texts(
             writer,
             &[

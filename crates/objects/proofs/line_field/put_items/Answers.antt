@@ -13,7 +13,7 @@ loop-item-preserved g c = record {
 
 pub returns : goal.returns
 returns g c = with_last c.end_array.result _ _ c.end_array.ensures.ok (λ told. (
-  array_told g.T.Item.json c.args.items.now c.loop-item.item-index c.args.name.now _ _ _ _ _
-      c.in_ok-key.ensures.ok c.in_ok-begin_array.ensures.ok c.loop-item.invariant.tokens c.loop-item-test.false told,
-  c.end_array.ensures.room.0 ∙ c.loop-item.invariant.before ∙ c.in_ok-begin_array.ensures.room.0 ∙ c.in_ok-key.ensures.room.0,
+  array_told g.T.Item.json c.args.items.now c.loop-item.item-index _ _ _ _
+      c.in_ok-begin_array.ensures.ok c.loop-item.invariant.tokens c.loop-item-test.false told,
+  c.end_array.ensures.room.0 ∙ c.loop-item.invariant.before ∙ c.in_ok-begin_array.ensures.room.0,
 ))

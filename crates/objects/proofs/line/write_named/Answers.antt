@@ -1,9 +1,0 @@
-use Rattle.std.proofs.Common.{refl, append_assoc}
-use Rattle.objects.proofs.Added.{with_last}
-use Rattle.objects.proofs.line.write_named.Goals as goal
-
-pub returns : goal.returns
-returns c = with_last c.end_object.result _ _ c.end_object.ensures.ok (λ told. (
-  rw (told, c.in_ok-put_head.ensures.0) (simp append_assoc),
-  rw (c.end_object.ensures.room.0, c.in_ok-put_head.ensures.1) refl,
-))
