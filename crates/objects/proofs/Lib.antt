@@ -11,6 +11,7 @@ pub mod Spelled
 pub mod Rows
 pub mod Lines
 pub mod Added
+pub mod Puts
 pub mod Lengths
 pub mod Parsed
 pub mod Sayings

@@ -34,9 +34,9 @@ use Rattle.objects.specs.Amounts.{in_field, amount_of, offered, allocatable}
 use Rattle.objects.specs.Containers.{count}
 use Rattle.objects.specs.Sayable.{says_label, says_taint, says_toleration}
 use Rattle.objects.specs.Labels.{Kept, with_item, label_of, fitting, is_named, behind, told_labels, if_named, named_labels, unless_named, other_labels, all_labels, have_room, row_labels}
-use Rattle.objects.specs.NodeRow.{taint_of, taints, node_parts, node_row}
+use Rattle.objects.specs.NodeRow.{taint_of, taints, node_parts, node_labels, node_row}
 use Rattle.objects.specs.PodRequest as reckoning
-use Rattle.objects.specs.PodRow.{full_name, pod_name, is_small, a_priority, priority_of, priority, text_if, with_parts, toleration_of, tolerations_of, pod_parts, pod_row}
+use Rattle.objects.specs.PodRow.{full_name, pod_name, is_small, a_priority, priority_of, priority, text_if, with_parts, toleration_of, tolerations_of, pod_parts, pod_lists, pod_row}
 use Rattle.objects.specs.Demands.{wishes}
 use Rattle.objects.specs.Site.{Site}
 use Rattle.objects.specs.Told.{name_in, name_of}
@@ -294,14 +294,18 @@ node_parts_said meta json =
     bind_ok (flag_of (codes "unschedulable") (within (codes "spec") (codes "unschedulable") json)) _ (λ unschedulable.
     last_ok _ (record { name = n; room = r; taints = t })))))
 
+node_labels_said : (site : Site) (meta json : Data) → OkIs (λ kept. IsList says_label MAX_LABELS kept.item) (node_labels site meta json)
+unfolding node_labels
+node_labels_said site meta json =
+    bind_ok (members_of (codes "labels") (field (codes "labels") meta)) _ (λ found.
+    bind_ok (members_of (codes "allocatable") (within (codes "status") (codes "allocatable") json)) _ (λ resources. labels_said site [] found))
+
 pub node_row_said : (site : Site) (json : Data) → OkIs (λ row. IsNodeRow row.item) (node_row site json)
 unfolding node_row
 node_row_said site json =
     bind_ok (part_of (codes "metadata") json) _ (λ meta.
     bind_with (node_parts meta json) _ (node_parts_said meta json) (λ parts p.
-    bind_ok (members_of (codes "labels") (field (codes "labels") meta)) _ (λ found.
-    bind_ok (members_of (codes "allocatable") (within (codes "status") (codes "allocatable") json)) _ (λ resources.
-    bind_with (row_labels site [] found) _ (labels_said site [] found) (λ kept k.
+    bind_with (node_labels site meta json) _ (node_labels_said site meta json) (λ kept k.
     last_ok _ (record {
       name = p.name;
       cpu = p.room.cpu;
@@ -311,7 +315,7 @@ node_row_said site json =
       labels = k.each;
       few_taints = p.taints.few;
       taints = p.taints.each;
-    }))))))
+    }))))
 
 record ArePodParts (parts : List ℕ × ℤ × Request) : Type 0 where
   uid : IsNamed parts.0
@@ -324,23 +328,32 @@ pod_parts_said by_uid meta spec json =
     bind_with (priority spec) _ (priority_said spec) (λ priority p.
     bind_ok (reckoning.request Waiting json spec) _ (λ request. last_ok _ (record { uid = u; priority = p }))))
 
+record ArePodLists (lists : List Label × Kept (List Toleration)) : Type 0 where
+  labels : IsList says_label MAX_LABELS lists.0
+  tolerations : IsList says_toleration MAX_TOLERATIONS lists.1.item
+
+pod_lists_said : (site : Site) (meta spec : Data) → OkIs ArePodLists (pod_lists site meta spec)
+unfolding pod_lists
+pod_lists_said site meta spec =
+    bind_ok (members_of (codes "labels") (field (codes "labels") meta)) _ (λ found.
+    bind_ok (items_of (codes "tolerations") (field (codes "tolerations") spec)) _ (λ tolerations.
+    let wished = wishes (is_some site.beside) spec in
+    bind_with (row_labels site wished found) _ (labels_said site wished found) (λ kept k.
+    last_ok _ (record { labels = k; tolerations = tolerations_said (record { item = []; left_out = kept.left_out }) tolerations no_tolerations }))))
+
 pub pod_row_said : (site : Site) (by_uid : Bool) (json : Data) → OkIs (λ row. IsPodRow row.item) (pod_row site by_uid json)
 unfolding pod_row
 pod_row_said site by_uid json =
     bind_ok (part_of (codes "metadata") json) _ (λ meta.
     bind_ok (part_of (codes "spec") json) _ (λ spec.
     bind_with (pod_parts by_uid meta spec json) _ (pod_parts_said by_uid meta spec json) (λ parts p.
-    bind_ok (members_of (codes "labels") (field (codes "labels") meta)) _ (λ found.
-    bind_ok (items_of (codes "tolerations") (field (codes "tolerations") spec)) _ (λ tolerations.
-    let wished = wishes (is_some site.beside) spec in
-    bind_with (row_labels site wished found) _ (labels_said site wished found) (λ kept k.
-    let t = tolerations_said (record { item = []; left_out = kept.left_out }) tolerations no_tolerations in
+    bind_with (pod_lists site meta spec) _ (pod_lists_said site meta spec) (λ lists l.
     last_ok _ (record {
       uid = p.uid;
       low = p.priority.0;
       high = p.priority.1;
-      few_labels = k.few;
-      labels = k.each;
-      few_tolerations = t.few;
-      tolerations = t.each;
-    })))))))
+      few_labels = l.labels.few;
+      labels = l.labels.each;
+      few_tolerations = l.tolerations.few;
+      tolerations = l.tolerations.each;
+    })))))

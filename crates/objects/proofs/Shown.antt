@@ -30,9 +30,9 @@ use Rattle.objects.specs.Reading.{said, field, within, part_of, members_of, item
 use Rattle.objects.specs.PodRequest.{fault_of, more_left_out, is_held_read, held_left_out}
 use Rattle.objects.specs.PodRequest as pods
 use Rattle.objects.specs.Labels.{Kept, with_item, label_of, is_named, told_labels, named_labels, unless_named, other_labels, have_room, all_labels, row_labels}
-use Rattle.objects.specs.NodeRow.{node_parts, node_row}
+use Rattle.objects.specs.NodeRow.{node_parts, node_labels, node_row}
 use Rattle.objects.specs.Demands.{each_item, array_gives, affinity, asks_spread, is_read_affinity, is_nothing, is_known, other_field, other_fields, fields_of, free, free_or_claimed, is_tied, volume, node_port, host_port, is_reckoned, other_resource, other_resources, object_gives, resources_of, container, containers, placement, demands, wishes}
-use Rattle.objects.specs.PodRow.{pod_parts, toleration_of, tolerations_of, pod_row}
+use Rattle.objects.specs.PodRow.{pod_parts, toleration_of, tolerations_of, pod_lists, pod_row}
 use Rattle.objects.specs.Site.{Site, Telling, telling}
 use Rattle.objects.specs.Told.{Told, saying, name_of, gone, gone_by, gone_told, event_if, gone_if, row_told, scheduler_of, kept_back, waiting_by, waiting_told, placed_told, has_ended, node_name, by_node, pod_told, there_told, by_change, kind_told, kind_of, by_kind, object_told, change_of, is_bookmark, changed_told, event_told, value_told, is_blank, parsed, line_told, told_or_uncounted, told}
 use Rattle.objects.specs.Sayable.{IsVersion}
@@ -282,15 +282,26 @@ labels_texts site left found h =
     last_ok _ (other_labels_texts site (record { item = first; left_out = left }) found h))))
     (no_ok (refused TooMany (codes "labels"))))
 
+node_labels_texts : (site : Site) (meta json : Data) → OkIs (λ kept. AreTexts kept.left_out) (node_labels site meta json)
+unfolding node_labels
+node_labels_texts site meta json =
+    bind_ok (members_of (codes "labels") (field (codes "labels") meta)) _ (λ found.
+    bind_ok (members_of (codes "allocatable") (within (codes "status") (codes "allocatable") json)) _ (λ resources. labels_texts site [] found none))
+
 node_texts : (site : Site) (json : Data) → OkIs (λ row. AreTexts row.left_out) (node_row site json)
 unfolding node_row
 node_texts site json =
     bind_ok (part_of (codes "metadata") json) _ (λ meta.
     bind_ok (node_parts meta json) _ (λ parts.
+    bind_with (node_labels site meta json) _ (node_labels_texts site meta json) (λ kept h. last_ok _ h)))
+
+pod_lists_texts : (site : Site) (meta spec : Data) → OkIs (λ lists. AreTexts lists.1.left_out) (pod_lists site meta spec)
+unfolding pod_lists
+pod_lists_texts site meta spec =
     bind_ok (members_of (codes "labels") (field (codes "labels") meta)) _ (λ found.
-    bind_ok (members_of (codes "allocatable") (within (codes "status") (codes "allocatable") json)) _ (λ resources.
-    bind_with (row_labels site [] found) _ (labels_texts site [] found none)
-    (λ kept h. last_ok _ h)))))
+    bind_ok (items_of (codes "tolerations") (field (codes "tolerations") spec)) _ (λ tolerations.
+    bind_with (row_labels site (wishes (is_some site.beside) spec) found) _ (labels_texts site (wishes (is_some site.beside) spec) found (wishes_texts (is_some site.beside) spec))
+    (λ kept h. last_ok _ (tolerations_texts (record { item = []; left_out = kept.left_out }) tolerations h))))
 
 pod_texts : (site : Site) (by_uid : Bool) (json : Data) → OkIs (λ row. AreTexts row.left_out) (pod_row site by_uid json)
 unfolding pod_row
@@ -298,10 +309,7 @@ pod_texts site by_uid json =
     bind_ok (part_of (codes "metadata") json) _ (λ meta.
     bind_ok (part_of (codes "spec") json) _ (λ spec.
     bind_ok (pod_parts by_uid meta spec json) _ (λ parts.
-    bind_ok (members_of (codes "labels") (field (codes "labels") meta)) _ (λ found.
-    bind_ok (items_of (codes "tolerations") (field (codes "tolerations") spec)) _ (λ tolerations.
-    bind_with (row_labels site (wishes (is_some site.beside) spec) found) _ (labels_texts site (wishes (is_some site.beside) spec) found (wishes_texts (is_some site.beside) spec))
-    (λ kept h. last_ok _ (tolerations_texts (record { item = []; left_out = kept.left_out }) tolerations h)))))))
+    bind_with (pod_lists site meta spec) _ (pod_lists_texts site meta spec) (λ lists h. last_ok _ h))))
 
 -- what is told is named in texts, and a line can say its event
 

@@ -58,13 +58,18 @@ node_of parts labels = record {
   left_out = labels.left_out;
 }
 
--- the row of a node's object, in which the labels that the site's rules read come first. Of its other resources
--- nothing is said: a pod that asks for one isn't told
+-- its labels, in which those that the site's rules read come first. Of its other resources nothing is said: a pod
+-- that asks for one isn't told
+unfoldable pub node_labels : Site → (meta json : Data) → Result (Kept (List Label)) Fault
+node_labels site meta json = do
+  found ← members_of (codes "labels") (field (codes "labels") meta)
+  resources ← members_of (codes "allocatable") (within (codes "status") (codes "allocatable") json)
+  row_labels site [] found
+
+-- the row of a node's object
 unfoldable pub node_row : Site → Data → Result (Kept Node) Fault
 node_row site json = do
   meta ← part_of (codes "metadata") json
   parts ← node_parts meta json
-  found ← members_of (codes "labels") (field (codes "labels") meta)
-  resources ← members_of (codes "allocatable") (within (codes "status") (codes "allocatable") json)
-  kept ← row_labels site [] found
+  kept ← node_labels site meta json
   Ok (node_of parts kept)

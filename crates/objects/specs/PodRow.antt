@@ -96,14 +96,20 @@ pod_of parts labels tolerations = record {
   left_out = tolerations.left_out;
 }
 
--- the row of a pod's object, in which the labels that the site's rules read come first, and what it leaves out
--- behind what the pod can do without: its labels are read before its tolerations
+-- its labels, in which those that the site's rules read come first, and its tolerations, and what is left out of
+-- both behind what the pod can do without: its labels are read before its tolerations
+unfoldable pub pod_lists : Site → (meta spec : Data) → Result (List Label × Kept (List Toleration)) Fault
+pod_lists site meta spec = do
+  found ← members_of (codes "labels") (field (codes "labels") meta)
+  tolerations ← items_of (codes "tolerations") (field (codes "tolerations") spec)
+  kept ← row_labels site (wishes (is_some site.beside) spec) found
+  Ok (kept.item, tolerations_of (record { item = []; left_out = kept.left_out }) tolerations)
+
+-- the row of a pod's object
 unfoldable pub pod_row : Site → (by_uid : Bool) → Data → Result (Kept Pod) Fault
 pod_row site by_uid json = do
   meta ← part_of (codes "metadata") json
   spec ← part_of (codes "spec") json
   parts ← pod_parts by_uid meta spec json
-  found ← members_of (codes "labels") (field (codes "labels") meta)
-  tolerations ← items_of (codes "tolerations") (field (codes "tolerations") spec)
-  kept ← row_labels site (wishes (is_some site.beside) spec) found
-  Ok (pod_of parts kept.item (tolerations_of (record { item = []; left_out = kept.left_out }) tolerations))
+  lists ← pod_lists site meta spec
+  Ok (pod_of parts lists.0 lists.1)

@@ -1,5 +1,5 @@
 //! The amounts in an object: what a pod asks for or holds of each resource, and what a node has.
-ghost use Rattle.std.specs.Prelude.{◌≡◌, ◌≤◌, IfOk, option_map};
+ghost use Rattle.std.specs.Prelude.{◌≡◌, ◌≤◌, true, Ok, IfOk, option_map};
 ghost use Rattle.serde_json.specs.View.{view};
 ghost use Rattle.objects.specs.Quantity.{most};
 ghost use Rattle.objects.specs.declared.amounts.Part.TheVariants as parts;
@@ -172,20 +172,25 @@ fn amount_in(
     )
 }
 
-// The same, or the most of it, where that can't be read and the pod stands on a node.
-fn amount_taken(
-    object: &Value,
-    holder: &'static str,
-    part: Part,
-    resource: Resource,
-    stands: bool,
-) -> Result<u64, ObjectFault>
-    ensures { Tells (λ n. n) result (taken stands (most resource) (amount_in part holder.now resource (view object.now))) }
+// The same, or the most of it, where that can't be read.
+fn amount_or_most(object: &Value, holder: &'static str, part: Part, resource: Resource) -> u64
+    ensures { taken true (most resource) (amount_in part holder.now resource (view object.now)) ≡ Ok result }
 {
     match amount_in(object, holder, part, resource) {
-        Err(_) if stands => Ok(resource.most()),
-        found => found,
+        Ok(amount) => amount,
+        Err(_) => resource.most(),
     }
+}
+
+// The amounts that a part of an object tells, which stands in the field `holder`, where the most
+// stands for what can't be read.
+#[tactic(auto, unfolding(crate::specs::Amounts::amounts))]
+pub(crate) fn amounts_or_most(object: &Value, holder: &'static str, part: Part) -> Request
+    ensures { amounts true part holder.now (view object.now) ≡ Ok result }
+{
+    let cpu = amount_or_most(object, holder, part, Resource::Cpu);
+    let memory = amount_or_most(object, holder, part, Resource::Memory);
+    at_most(cpu, memory)
 }
 
 // The amounts that a part of an object tells, which stands in the field `holder`. Where the pod
@@ -199,8 +204,11 @@ pub(crate) fn amounts(
 ) -> Result<Request, ObjectFault>
     ensures { Tells (λ request. request) result (amounts stands part holder.now (view object.now)) }
 {
-    let cpu = amount_taken(object, holder, part, Resource::Cpu, stands)?;
-    let memory = amount_taken(object, holder, part, Resource::Memory, stands)?;
+    if stands {
+        return Ok(amounts_or_most(object, holder, part));
+    }
+    let cpu = amount_in(object, holder, part, Resource::Cpu)?;
+    let memory = amount_in(object, holder, part, Resource::Memory)?;
     Ok(at_most(cpu, memory))
 }
 

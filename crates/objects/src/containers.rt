@@ -6,7 +6,7 @@ ghost use Rattle.objects.specs.Containers.{larger, status_request, is_status_of,
 ghost use Rattle.objects.specs.Reading.{field, each};
 ghost use Rattle.objects.specs.inside.Answers.{Gives, Answers, Tells};
 
-use crate::amounts::{Part, amounts, at_most, under};
+use crate::amounts::{Part, amounts, amounts_or_most, at_most, under};
 use crate::fault::{ObjectFault, Why};
 use crate::reading::{field, items_of, spelled};
 use quant::{MAX_CPU, MAX_MEM, Request};
@@ -39,12 +39,12 @@ pub(crate) fn larger(a: &Request, b: &Request) -> Request
 
 // What the status of a container or a pod says that it holds.
 #[tactic(auto, unfolding(crate::specs::Containers::status_request))]
-pub(crate) fn status_request(status: &Value, holder: &'static str) -> Result<Request, ObjectFault>
-    ensures { Answers result (status_request holder.now (view status.now)) }
+pub(crate) fn status_request(status: &Value, holder: &'static str) -> Request
+    ensures { status_request holder.now (view status.now) ≡ Ok result }
 {
-    let set_aside = amounts(status, holder, Part::Allocated, true)?;
-    let in_force = amounts(status, holder, Part::Requested, true)?;
-    Ok(larger(&set_aside, &in_force))
+    let set_aside = amounts_or_most(status, holder, Part::Allocated);
+    let in_force = amounts_or_most(status, holder, Part::Requested);
+    larger(&set_aside, &in_force)
 }
 
 // Whether a status is of the container of this name, or could be.
@@ -57,26 +57,26 @@ fn is_status_of(status: &Value, name: &str) -> bool
 }
 
 // The most of this and of what the statuses of a container of this name say.
-fn held(name: &str, asked: Request, said: &[Value]) -> Result<Request, ObjectFault>
-    ensures { Answers result (held name.now asked (items_view said.now)) }
+fn held(name: &str, asked: Request, said: &[Value]) -> Request
+    ensures { held name.now asked (items_view said.now) ≡ Ok result }
 {
     let mut most = asked;
     for status in said {
-        most = or_held(name, most, status)?;
+        most = or_held(name, most, status);
     }
-    Ok(most)
+    most
 }
 
 // The most of this and of what a status says, if it is of the container of this name.
 #[tactic(auto, unfolding(crate::specs::Containers::or_held))]
-fn or_held(name: &str, most: Request, status: &Value) -> Result<Request, ObjectFault>
-    ensures { Answers result (or_held name.now most (view status.now)) }
+fn or_held(name: &str, most: Request, status: &Value) -> Request
+    ensures { or_held name.now most (view status.now) ≡ Ok result }
 {
     if !is_status_of(status, name) {
-        return Ok(most);
+        return most;
     }
-    let more = status_request(status, "containerStatuses")?;
-    Ok(larger(&most, &more))
+    let more = status_request(status, "containerStatuses");
+    larger(&most, &more)
 }
 
 // Whether a container says that it goes on running. One of which that can't be said does, where the
@@ -105,7 +105,7 @@ fn one_container(
     ensures { Answers result (container stands key.now (items_view said.now) (view item.now)) }
 {
     let asked = amounts(item, key, Part::Asked, stands)?;
-    let request = held(spelled(item, "name"), asked, said)?;
+    let request = held(spelled(item, "name"), asked, said);
     let goes_on = goes_on(item, stands)?;
     Ok(Container { request, goes_on })
 }

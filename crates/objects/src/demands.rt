@@ -1,5 +1,5 @@
 //! What a pod asks for that no row tells: what it must have, and what it only wishes.
-ghost use Rattle.std.specs.Prelude.{◌≡◌, ◌++◌, ◌&&◌, ℕ, not, List, [], map, codes, None, IfOk, option_map, if◌then◌else◌};
+ghost use Rattle.std.specs.Prelude.{◌≡◌, ◌++◌, ◌&&◌, ℕ, not, List, [], map, codes, None, option_map, if◌then◌else◌};
 ghost use Rattle.serde_json.specs.Data.{Data};
 ghost use Rattle.serde_json.specs.Find.{as_object};
 ghost use Rattle.serde_json.specs.View.{view, items_view, members_view};
@@ -7,15 +7,15 @@ ghost use Rattle.objects.specs.Demands.{each_item, array_gives, affinity, is_wis
 ghost use Rattle.objects.specs.Reading.{said, field, is_given, has};
 ghost use Rattle.objects.specs.LeftOut.{left_out, left_out_if};
 ghost use Rattle.objects.specs.inside.Otherwise.{otherwise};
+ghost use Rattle.objects.specs.inside.Puts.{Puts};
 
 use crate::amounts::amount_of;
-use crate::left_out::{put_each_if, put_left_out};
+use crate::left_out::{Names, put_each_if, put_left_out};
 use crate::quantity::Rounding;
 use crate::reading::{field, has, is_given, spelled, within};
 use crate::resource::Resource;
 use itoa::Buffer;
 use serde_json::{Map, Value};
-use std::alloc::AllocError;
 
 // The kinds of affinity that are looked at.
 const KINDS: [&str; 3] = ["nodeAffinity", "podAffinity", "podAntiAffinity"];
@@ -95,21 +95,21 @@ const KNOWN: [&str; 41] = [
 // Puts the names of what a pod's spec must have, where what it asks of nodes' labels and of volumes
 // that it claims is told, or isn't.
 #[tactic(auto, unfolding(crate::specs::Demands::demands))]
-pub(crate) fn put_demands(out: &mut Vec<u8>, spec: &Value, is_told: bool) -> Result<(), AllocError>
-    ensures { IfOk result (λ _. out.new.items ≡ out.old.items ++ demands is_told (view spec.now)) }
+pub(crate) fn put_demands(out: &mut Names, spec: &Value, is_told: bool)
+    ensures { Puts out.old out.new (demands is_told (view spec.now)) }
 {
-    put_placement(out, spec, is_told)?;
-    put_volumes(out, spec, is_told)?;
-    put_list::<Container>(out, spec, "containers", None)?;
-    put_list::<Container>(out, spec, "initContainers", None)?;
-    put_members(out, field(spec, "overhead"), None)?;
+    put_placement(out, spec, is_told);
+    put_volumes(out, spec, is_told);
+    put_list::<Container>(out, spec, "containers", None);
+    put_list::<Container>(out, spec, "initContainers", None);
+    put_members(out, field(spec, "overhead"), None);
     put_fields(out, spec)
 }
 
 // Puts the names of what it must have of its node and of other pods, and of what it waits for.
 #[tactic(auto, unfolding(crate::specs::Demands::placement))]
-fn put_placement(out: &mut Vec<u8>, spec: &Value, is_told: bool) -> Result<(), AllocError>
-    ensures { IfOk result (λ _. out.new.items ≡ out.old.items ++ placement is_told (view spec.now)
+fn put_placement(out: &mut Names, spec: &Value, is_told: bool)
+    ensures { Puts out.old out.new (placement is_told (view spec.now)
         ++ left_out_if (is_given (field (codes "schedulingGates") (view spec.now))) (codes "scheduling gates")
         ++ left_out_if (is_given (field (codes "resourceClaims") (view spec.now))) (codes "resource claims")) }
 {
@@ -135,8 +135,8 @@ fn put_placement(out: &mut Vec<u8>, spec: &Value, is_told: bool) -> Result<(), A
 
 // Puts the names of what it can do without.
 #[tactic(auto, unfolding(crate::specs::Demands::wishes))]
-pub(crate) fn put_wishes(out: &mut Vec<u8>, spec: &Value, is_told: bool) -> Result<(), AllocError>
-    ensures { IfOk result (λ _. out.new.items ≡ out.old.items ++ wishes is_told (view spec.now)) }
+pub(crate) fn put_wishes(out: &mut Names, spec: &Value, is_told: bool)
+    ensures { Puts out.old out.new (wishes is_told (view spec.now)) }
 {
     let nodes = affinity(spec, "nodeAffinity", PREFERRED);
     put_each_if(
@@ -158,9 +158,9 @@ pub(crate) fn put_wishes(out: &mut Vec<u8>, spec: &Value, is_told: bool) -> Resu
 
 // Puts the names of the volumes that tie a pod to a node, but for those that are claimed, where
 // their places are told.
-fn put_volumes(out: &mut Vec<u8>, spec: &Value, is_told: bool) -> Result<(), AllocError>
-    ensures { IfOk result (λ _. out.new.items ≡ out.old.items
-        ++ array_gives (volume (if is_told then free_or_claimed else free)) (left_out (codes "volume ") [])
+fn put_volumes(out: &mut Names, spec: &Value, is_told: bool)
+    ensures { Puts out.old out.new
+        (array_gives (volume (if is_told then free_or_claimed else free)) (left_out (codes "volume ") [])
         (field (codes "volumes") (view spec.now))) }
 {
     if is_told {
@@ -197,40 +197,34 @@ trait Listed {
     ghost names: { Data → List ℕ };
 
     // Puts the names that an item gives.
-    fn put(out: &mut Vec<u8>, item: &Value) -> Result<(), AllocError>
-        ensures { IfOk result (λ _. out.new.items ≡ out.old.items ++ names (view item.now)) };
+    fn put(out: &mut Names, item: &Value)
+        ensures { Puts out.old out.new (names (view item.now)) };
 }
 
 // Puts the names that the items of an array in a field give, or another where it is no array.
-fn put_list<T: Listed>(
-    out: &mut Vec<u8>,
-    object: &Value,
-    key: &str,
-    unread: Option<&str>,
-) -> Result<(), AllocError>
-    ensures { IfOk result (λ _. out.new.items ≡ out.old.items
-        ++ array_gives T.names (otherwise (option_map (λ s. s.now) unread.entry)) (field key.now (view object.now))) }
+fn put_list<T: Listed>(out: &mut Names, object: &Value, key: &str, unread: Option<&str>)
+    ensures { Puts out.old out.new
+        (array_gives T.names (otherwise (option_map (λ s. s.now) unread.entry)) (field key.now (view object.now))) }
 {
     let Some(value) = field(object, key) else {
-        return Ok(());
+        return;
     };
     if let Some(found) = value.as_array() {
-        return put_items::<T>(out, found.as_slice());
+        put_items::<T>(out, found.as_slice());
+        return;
     }
-    match unread {
-        Some(what) => put_left_out(out, what, b""),
-        None => Ok(()),
+    if let Some(what) = unread {
+        put_left_out(out, what, b"")
     }
 }
 
 // Puts the names that items give.
-fn put_items<T: Listed>(out: &mut Vec<u8>, found: &[Value]) -> Result<(), AllocError>
-    ensures { IfOk result (λ _. out.new.items ≡ out.old.items ++ each_item T.names (items_view found.now)) }
+fn put_items<T: Listed>(out: &mut Names, found: &[Value])
+    ensures { Puts out.old out.new (each_item T.names (items_view found.now)) }
 {
     for item in found {
-        T::put(out, item)?;
+        T::put(out, item);
     }
-    Ok(())
 }
 
 // Whether one of the spreads that a pod asks for is one that it can do without, or isn't.
@@ -334,7 +328,7 @@ struct Volume;
 impl Listed for Volume {
     ghost names = { volume free };
 
-    fn put(out: &mut Vec<u8>, item: &Value) -> Result<(), AllocError> {
+    fn put(out: &mut Names, item: &Value) {
         put_volume(out, item, &FREE_OR_CLAIMED[CLAIMED..])
     }
 }
@@ -346,21 +340,18 @@ impl Listed for UnclaimedVolume {
     ghost names = { volume free_or_claimed };
 
     #[tactic(auto, unfolding(crate::specs::Demands::free_or_claimed))]
-    fn put(out: &mut Vec<u8>, item: &Value) -> Result<(), AllocError> {
+    fn put(out: &mut Names, item: &Value) {
         put_volume(out, item, &FREE_OR_CLAIMED)
     }
 }
 
 // Puts the name of a volume that may tie a pod to a node, as one of other kinds than these may.
 #[tactic(auto, unfolding(crate::specs::Demands::volume))]
-fn put_volume(out: &mut Vec<u8>, item: &Value, kinds: &[&str]) -> Result<(), AllocError>
-    ensures { IfOk result (λ _. out.new.items
-        ≡ out.old.items ++ volume (map (λ kind. kind.now) kinds.now) (view item.now)) }
+fn put_volume(out: &mut Names, item: &Value, kinds: &[&str])
+    ensures { Puts out.old out.new (volume (map (λ kind. kind.now) kinds.now) (view item.now)) }
 {
     if is_tied(item, kinds) {
         put_left_out(out, "volume ", spelled(item, "name").as_bytes())
-    } else {
-        Ok(())
     }
 }
 
@@ -381,20 +372,19 @@ impl Listed for Port {
     ghost names = { host_port };
 
     #[tactic(auto, unfolding(crate::specs::Demands::host_port))]
-    fn put(out: &mut Vec<u8>, item: &Value) -> Result<(), AllocError> {
-        match field(item, "hostPort") {
-            Some(value) => put_node_port(out, value.as_u64()),
-            None => Ok(()),
+    fn put(out: &mut Names, item: &Value) {
+        if let Some(value) = field(item, "hostPort") {
+            put_node_port(out, value.as_u64())
         }
     }
 }
 
 // Puts a port of the node itself, which 0 is not.
-fn put_node_port(out: &mut Vec<u8>, port: Option<u64>) -> Result<(), AllocError>
-    ensures { IfOk result (λ _. out.new.items ≡ out.old.items ++ node_port port) }
+fn put_node_port(out: &mut Names, port: Option<u64>)
+    ensures { Puts out.old out.new (node_port port) }
 {
     match port {
-        Some(0) => Ok(()),
+        Some(0) => {}
         Some(n) => {
             let mut digits = Buffer::new();
             put_left_out(out, "host port ", digits.format(n).as_bytes())
@@ -410,36 +400,31 @@ impl Listed for Container {
     ghost names = { container };
 
     #[tactic(auto, unfolding(crate::specs::Demands::container))]
-    fn put(out: &mut Vec<u8>, item: &Value) -> Result<(), AllocError> {
-        put_list::<Port>(out, item, "ports", Some("host port "))?;
+    fn put(out: &mut Names, item: &Value) {
+        put_list::<Port>(out, item, "ports", Some("host port "));
         put_resources(out, field(item, "resources"))
     }
 }
 
 // Puts the resources beyond CPU and memory that a container asks for or may use.
-fn put_resources(out: &mut Vec<u8>, resources: Option<&Value>) -> Result<(), AllocError>
-    ensures { IfOk result (λ _. out.new.items
-        ≡ out.old.items ++ resources_of (option_map (λ v. view v.now) resources.entry)) }
+fn put_resources(out: &mut Names, resources: Option<&Value>)
+    ensures { Puts out.old out.new (resources_of (option_map (λ v. view v.now) resources.entry)) }
 {
     let Some(resources) = resources else {
-        return Ok(());
+        return;
     };
     let requests = field(resources, "requests");
-    put_members(out, requests, None)?;
+    put_members(out, requests, None);
     put_members(out, field(resources, "limits"), requests)
 }
 
 // Puts the resources of a field that others don't have already.
-fn put_members(
-    out: &mut Vec<u8>,
-    value: Option<&Value>,
-    others: Option<&Value>,
-) -> Result<(), AllocError>
-    ensures { IfOk result (λ _. out.new.items ≡ out.old.items
-        ++ object_gives (has (option_map (λ v. view v.now) others.entry)) (option_map (λ v. view v.now) value.entry)) }
+fn put_members(out: &mut Names, value: Option<&Value>, others: Option<&Value>)
+    ensures { Puts out.old out.new
+        (object_gives (has (option_map (λ v. view v.now) others.entry)) (option_map (λ v. view v.now) value.entry)) }
 {
     let Some(value) = value else {
-        return Ok(());
+        return;
     };
     match value.as_object() {
         Some(members) => put_other_resources(out, members, others),
@@ -448,35 +433,24 @@ fn put_members(
 }
 
 // Puts the resources beyond CPU and memory that others don't have already.
-fn put_other_resources(
-    out: &mut Vec<u8>,
-    members: &Map<String, Value>,
-    others: Option<&Value>,
-) -> Result<(), AllocError>
-    ensures { IfOk result (λ _. out.new.items ≡ out.old.items
-        ++ other_resources (has (option_map (λ v. view v.now) others.entry)) (members_view members.now.entries)) }
+fn put_other_resources(out: &mut Names, members: &Map<String, Value>, others: Option<&Value>)
+    ensures { Puts out.old out.new
+        (other_resources (has (option_map (λ v. view v.now) others.entry)) (members_view members.now.entries)) }
 {
     for (key, value) in members.iter() {
-        put_resource(out, key.as_str(), value, others)?;
+        put_resource(out, key.as_str(), value, others);
     }
-    Ok(())
 }
 
 // Puts a resource beyond CPU and memory that others don't have already, unless it is nothing of it.
-fn put_resource(
-    out: &mut Vec<u8>,
-    key: &str,
-    value: &Value,
-    others: Option<&Value>,
-) -> Result<(), AllocError>
-    ensures { IfOk result (λ _. out.new.items ≡ out.old.items
-        ++ other_resource (has (option_map (λ v. view v.now) others.entry)) key.now (view value.now)) }
+fn put_resource(out: &mut Names, key: &str, value: &Value, others: Option<&Value>)
+    ensures { Puts out.old out.new
+        (other_resource (has (option_map (λ v. view v.now) others.entry)) key.now (view value.now)) }
 {
     if key == "cpu" || key == "memory" || has(others, key) || is_nothing(value) {
-        Ok(())
-    } else {
-        put_left_out(out, "resource ", key.as_bytes())
+        return;
     }
+    put_left_out(out, "resource ", key.as_bytes())
 }
 
 // Whether an amount is nothing.
@@ -492,26 +466,24 @@ fn is_nothing(value: &Value) -> bool
 
 // Puts the fields of a spec that aren't known to tie a pod to no node, where something stands in
 // them.
-fn put_fields(out: &mut Vec<u8>, spec: &Value) -> Result<(), AllocError>
-    ensures { IfOk result (λ _. out.new.items ≡ out.old.items ++ fields_of (as_object (view spec.now))) }
+fn put_fields(out: &mut Names, spec: &Value)
+    ensures { Puts out.old out.new (fields_of (as_object (view spec.now))) }
 {
     let Some(members) = spec.as_object() else {
-        return Ok(());
+        return;
     };
     for (key, value) in members.iter() {
-        put_other_field(out, key.as_str(), value)?;
+        put_other_field(out, key.as_str(), value);
     }
-    Ok(())
 }
 
 // Puts a field that isn't known, where something stands in it.
 #[tactic(auto, unfolding(crate::specs::Demands::other_field))]
-fn put_other_field(out: &mut Vec<u8>, key: &str, value: &Value) -> Result<(), AllocError>
-    ensures { IfOk result (λ _. out.new.items ≡ out.old.items ++ other_field key.now (view value.now)) }
+fn put_other_field(out: &mut Names, key: &str, value: &Value)
+    ensures { Puts out.old out.new (other_field key.now (view value.now)) }
 {
     if is_one_of(&KNOWN, key) || value.is_null() || !is_given(Some(value)) {
-        Ok(())
-    } else {
-        put_left_out(out, "field ", key.as_bytes())
+        return;
     }
+    put_left_out(out, "field ", key.as_bytes())
 }

@@ -41,7 +41,12 @@ pub(crate) fn split_fraction(text: &[u8]) -> (&[u8], &[u8])
 pub(crate) fn are_zeros(text: &[u8]) -> bool
     ensures { result ≡ is_zero text.now }
 {
-    text.iter().all(|b| *b == b'0')
+    for byte in text {
+        if *byte != b'0' {
+            return false;
+        }
+    }
+    true
 }
 
 // Digits but for the zeros in front of them.

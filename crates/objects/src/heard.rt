@@ -1,5 +1,5 @@
 //! What the API tells of nodes and pods, as of their own versions.
-ghost use Rattle.std.specs.Prelude.{◌≡◌, ◌<◌, [], length, Ok, option_map, IfOk, IsTrue};
+ghost use Rattle.std.specs.Prelude.{◌≡◌, ◌<◌, [], true, length, Ok, option_map, IfOk, IsTrue};
 ghost use Rattle.std.specs.List.{list_all};
 ghost use Rattle.quant.specs.Amount.{is_digit, number};
 ghost use Rattle.serde_json.specs.View.{view};
@@ -13,7 +13,7 @@ ghost use Rattle.objects.specs.Site.{site_of};
 
 use crate::change::Kind;
 use crate::fault::{ObjectFault, Why};
-use crate::left_out::{put_left_out, put_refused, told_names};
+use crate::left_out::{Names, put_left_out, put_refused, told_names};
 use crate::reading::{field, name_at, part_of, spelled, text_at};
 use crate::site::Site;
 use crate::told::{has_ended, is_blank, kind_of, node_name, object_in, parse, value_told};
@@ -79,7 +79,7 @@ pub fn hear(alloc: Global, json: &Value, site: &Site<'_>) -> Result<Hearing, All
     ensures heard { IfOk result (λ found. found.heard ≡ heard (site_of site.now) (view json.now)) }
     ensures left_out { IfOk result (λ found. found.left_out.items ≡ names_of (hearing (site_of site.now) (view json.now))) }
 {
-    let mut left_out = Vec::new(alloc);
+    let mut left_out = Names::new(alloc);
     match heard_of(alloc, &mut left_out, json, site) {
         Ok(heard) => with_names(alloc, heard, &left_out),
         Err(ObjectFault::NoMemory) => Err(AllocError),
@@ -88,9 +88,10 @@ pub fn hear(alloc: Global, json: &Value, site: &Site<'_>) -> Result<Hearing, All
 }
 
 // What is heard, beside the names of what is left out.
-fn with_names(alloc: Global, heard: Heard, names: &[u8]) -> Result<Hearing, AllocError>
+fn with_names(alloc: Global, heard: Heard, names: &Names) -> Result<Hearing, AllocError>
+    ensures whole { IfOk result (λ _. names.now.is_whole ≡ true) }
     ensures heard { IfOk result (λ found. found.heard ≡ heard) }
-    ensures left_out { IfOk result (λ found. found.left_out.items ≡ names_of (hears heard names.now)) }
+    ensures left_out { IfOk result (λ found. found.left_out.items ≡ names_of (hears heard names.now.bytes.items)) }
 {
     let left_out = told_names(alloc, names)?;
     Ok(Hearing { heard, left_out })
@@ -102,8 +103,8 @@ fn unread(alloc: Global, why: Why, field: &'static str) -> Result<Hearing, Alloc
     ensures left_out { IfOk result (λ found. found.left_out.items
         ≡ names_of (hears heard_as.Unread (fault_text (refused why field.now)))) }
 {
-    let mut names = Vec::new(alloc);
-    put_refused(&mut names, why, field)?;
+    let mut names = Names::new(alloc);
+    put_refused(&mut names, why, field);
     with_names(alloc, Heard::Unread, &names)
 }
 
@@ -127,8 +128,8 @@ fn blank(alloc: Global) -> Result<Hearing, AllocError>
     ensures heard { IfOk result (λ found. found.heard ≡ heard_as.Nothing) }
     ensures left_out { IfOk result (λ found. found.left_out.items ≡ names_of (none_heard no_values.Blank)) }
 {
-    let mut names = Vec::new(alloc);
-    put_left_out(&mut names, "no JSON", b"")?;
+    let mut names = Names::new(alloc);
+    put_left_out(&mut names, "no JSON", b"");
     with_names(alloc, Heard::Nothing, &names)
 }
 
@@ -155,12 +156,12 @@ pub fn value_in(alloc: Global, line: &[u8]) -> Result<Result<Value, NoValue>, Al
 #[tactic(auto, unfolding(crate::specs::Heard::heard_of))]
 fn heard_of(
     alloc: Global,
-    names: &mut Vec<u8>,
+    names: &mut Names,
     json: &Value,
     site: &Site<'_>,
 ) -> Result<Heard, ObjectFault>
-    requires { names.old.items ≡ [] }
-    ensures { Gives (λ heard. hears heard names.new.items) result (heard_of (site_of site.now) (view json.now)) }
+    requires { names.old.bytes.items ≡ [] }
+    ensures { Gives (λ heard. hears heard names.new.bytes.items) result (heard_of (site_of site.now) (view json.now)) }
 {
     let version = version_of(object_in(json))?;
     let event = value_told(alloc, names, json, site, true, version)?;

@@ -1,5 +1,5 @@
 //! The labels that a row has of an object's.
-ghost use Rattle.std.specs.Prelude.{◌≡◌, ◌+◌, ◌<◌, codes, [], length, nat_le, bytes_eq, IfOk, OnSome, option_map};
+ghost use Rattle.std.specs.Prelude.{◌≡◌, ◌+◌, ◌<◌, codes, [], length, nat_le, bytes_eq, OnSome, option_map};
 ghost use Rattle.std.specs.List.{list_any, slice_split};
 ghost use Rattle.serde_json.specs.View.{view, members_view};
 ghost use Rattle.quant.specs.declared.limits.TheConstants.{MAX_LABELS};
@@ -7,28 +7,29 @@ ghost use Rattle.objects.specs.Labels.{fitting, label_of, behind, count_members,
 ghost use Rattle.objects.specs.Site.{site_of};
 ghost use Rattle.objects.specs.inside.Answers.{Gives};
 ghost use Rattle.objects.specs.inside.Members.{members_or_none, kept};
+ghost use Rattle.objects.specs.inside.Puts.{WhenWhole};
 
 use crate::fault::{ObjectFault, Why};
-use crate::left_out::put_left_out;
+use crate::left_out::{Names, put_left_out};
 use crate::reading::{has, members_of};
 use crate::site::Site;
 use manifest::has_key;
 use quant::{AtMost, Label, MAX_LABELS, Name, Text};
 use serde_json::{Map, Value};
-use std::alloc::AllocError;
 
 // Fills an empty row with the labels of an object, whose members may be absent: first those that
 // are told beside its own. Puts the names of those that are left out.
 #[tactic(auto, unfolding(crate::specs::Labels::row_labels))]
 pub(crate) fn fill_labels(
     labels: &mut AtMost<Label, MAX_LABELS>,
-    out: &mut Vec<u8>,
+    out: &mut Names,
     found: Option<&Map<String, Value>>,
     site: &Site<'_>,
 ) -> Result<(), ObjectFault>
     requires { labels.old ≡ [] }
-    ensures { Gives (λ _. kept labels.new out.new.items) result (row_labels (site_of site.now) out.old.items
-        (members_or_none (option_map (λ m. members_view m.now.entries) found.entry))) }
+    ensures { WhenWhole out.old out.new
+        (Gives (λ _. kept labels.new out.new.bytes.items) result (row_labels (site_of site.now) out.old.bytes.items
+        (members_or_none (option_map (λ m. members_view m.now.entries) found.entry)))) }
 {
     let beside = members_of(site.beside, "labels")?;
     let (told, own) = (count(beside), count(found));
@@ -60,22 +61,23 @@ fn have_room(beside: usize, own: usize) -> bool
 // Fills an empty row with labels, first those that are told beside an object's own.
 fn take_all(
     labels: &mut AtMost<Label, MAX_LABELS>,
-    out: &mut Vec<u8>,
+    out: &mut Names,
     beside: Option<&Map<String, Value>>,
     found: Option<&Map<String, Value>>,
     site: &Site<'_>,
 ) -> Result<(), ObjectFault>
     requires { labels.old ≡ [] }
-    ensures { Gives (λ _. kept labels.new out.new.items) result (all_labels (site_of site.now) out.old.items
+    ensures { WhenWhole out.old out.new
+        (Gives (λ _. kept labels.new out.new.bytes.items) result (all_labels (site_of site.now) out.old.bytes.items
         (members_or_none (option_map (λ m. members_view m.now.entries) beside.entry))
-        (members_or_none (option_map (λ m. members_view m.now.entries) found.entry))) }
+        (members_or_none (option_map (λ m. members_view m.now.entries) found.entry)))) }
 {
     if let Some(members) = beside {
         take_told(labels, members)?;
     }
     if let Some(members) = found {
         take_named(labels, members, site)?;
-        take_others(labels, out, members, site)?;
+        take_others(labels, out, members, site);
     }
     Ok(())
 }
@@ -148,49 +150,48 @@ fn take_if_named(
 // Puts the names of those that are left out.
 fn take_others(
     labels: &mut AtMost<Label, MAX_LABELS>,
-    out: &mut Vec<u8>,
+    out: &mut Names,
     members: &Map<String, Value>,
     site: &Site<'_>,
-) -> Result<(), AllocError>
-    ensures { IfOk result (λ _. other_labels (site_of site.now) (kept labels.old out.old.items)
-        (members_view members.now.entries) ≡ kept labels.new out.new.items) }
+)
+    ensures { WhenWhole out.old out.new (other_labels (site_of site.now) (kept labels.old out.old.bytes.items)
+        (members_view members.now.entries) ≡ kept labels.new out.new.bytes.items) }
 {
     for (key, value) in members.iter() {
-        take_unless_named(labels, out, key.as_str(), value, site)?;
+        take_unless_named(labels, out, key.as_str(), value, site);
     }
-    Ok(())
 }
 
 // Takes a label behind others, unless it is named, or puts the name of one that is left out.
 #[tactic(auto, unfolding(crate::specs::Labels::unless_named))]
 fn take_unless_named(
     labels: &mut AtMost<Label, MAX_LABELS>,
-    out: &mut Vec<u8>,
+    out: &mut Names,
     key: &str,
     value: &Value,
     site: &Site<'_>,
-) -> Result<(), AllocError>
-    ensures { IfOk result (λ _. unless_named (site_of site.now) (kept labels.old out.old.items) key.now
-        (view value.now) ≡ kept labels.new out.new.items) }
+)
+    ensures { WhenWhole out.old out.new (unless_named (site_of site.now) (kept labels.old out.old.bytes.items)
+        key.now (view value.now) ≡ kept labels.new out.new.bytes.items) }
 {
     if is_named(site.labels, key) || has(site.beside, key) {
-        return Ok(());
+        return;
     }
     take_label(labels, out, key, value)
 }
 
 // Takes a label behind others, or puts the name of one that is left out.
-fn take_label(
-    labels: &mut AtMost<Label, MAX_LABELS>,
-    out: &mut Vec<u8>,
-    key: &str,
-    value: &Value,
-) -> Result<(), AllocError>
-    ensures { IfOk result (λ _. with_item (codes "label ") key.now (kept labels.old out.old.items)
-        (label_of labels.old key.now (view value.now)) ≡ kept labels.new out.new.items) }
+fn take_label(labels: &mut AtMost<Label, MAX_LABELS>, out: &mut Names, key: &str, value: &Value)
+    ensures { WhenWhole out.old out.new (with_item (codes "label ") key.now (kept labels.old out.old.bytes.items)
+        (label_of labels.old key.now (view value.now)) ≡ kept labels.new out.new.bytes.items) }
 {
     match label_of(labels.as_slice(), key, value) {
-        Some(label) => labels.push(label),
+        Some(label) => {
+            let Ok(()) = labels.push(label) else {
+                out.is_whole = false;
+                return;
+            };
+        }
         None => put_left_out(out, "label ", key.as_bytes()),
     }
 }

@@ -1,8 +1,9 @@
 //! The names of what a line doesn't tell of an object.
-ghost use Rattle.std.specs.Prelude.{◌≡◌, ◌++◌, ◌≤◌, drop, length, take, flat_map, IfOk};
+ghost use Rattle.std.specs.Prelude.{◌≡◌, ◌≤◌, [], true, drop, length, take, flat_map, IfOk};
 ghost use Rattle.std.specs.List.{list_all};
 ghost use Rattle.quant.specs.Name.{is_name_byte};
 ghost use Rattle.objects.specs.LeftOut.{shown, left_out, left_out_if, refused, fault_text, told_names, up_to_marks};
+ghost use Rattle.objects.specs.inside.Puts.{Puts};
 
 use crate::fault::Why;
 use std::alloc::{AllocError, Global};
@@ -14,43 +15,83 @@ const MAX_SHOWN: usize = 317;
 // So many names are told of an object, each between two quotation marks.
 const MAX_MARKS: usize = 512;
 
+/// Names that are shown to people. Where memory lacks for a part of one, this is kept until they are
+/// read: what puts a name needs no answer.
+#[derive(Drop)]
+pub(crate) struct Names {
+    /// Their bytes, one behind the other.
+    pub bytes: Vec<u8>,
+    /// Whether memory was there for all of them.
+    pub is_whole: bool,
+}
+
+impl Names {
+    // None yet.
+    pub(crate) fn new(alloc: Global) -> Names
+        ensures bytes { result.bytes.items ≡ [] }
+        ensures whole { result.is_whole ≡ true }
+    {
+        Names {
+            bytes: Vec::new(alloc),
+            is_whole: true,
+        }
+    }
+
+    // Puts a part of a name behind what is there.
+    pub(crate) fn put(&mut self, part: &[u8])
+        ensures { Puts self.old self.new part.now }
+    {
+        if self.is_whole {
+            self.is_whole = self.bytes.extend_from_slice(part).is_ok();
+        }
+    }
+
+    // Their bytes, unless memory lacked.
+    pub(crate) fn into_bytes(self) -> Result<Vec<u8>, AllocError>
+        ensures whole { IfOk result (λ _. self.is_whole ≡ true) }
+        ensures bytes { IfOk result (λ bytes. bytes.items ≡ self.bytes.items) }
+    {
+        if self.is_whole {
+            Ok(self.bytes)
+        } else {
+            Err(AllocError)
+        }
+    }
+}
+
 // Puts the name of one more behind those of others: what it is, and its own name.
 #[tactic(auto, unfolding(crate::specs::LeftOut::left_out))]
-pub(crate) fn put_left_out(out: &mut Vec<u8>, what: &str, name: &[u8]) -> Result<(), AllocError>
-    ensures { IfOk result (λ _. out.new.items ≡ out.old.items ++ left_out what.now name.now) }
+pub(crate) fn put_left_out(out: &mut Names, what: &str, name: &[u8])
+    ensures { Puts out.old out.new (left_out what.now name.now) }
 {
-    out.extend_from_slice(b", \"")?;
-    out.extend_from_slice(what.as_bytes())?;
-    out.extend_from_slice(shown(name))?;
-    out.extend_from_slice(b"\"")
+    out.put(b", \"");
+    out.put(what.as_bytes());
+    out.put(shown(name));
+    out.put(b"\"");
 }
 
 // Puts one that has no name of its own, where there is one.
-pub(crate) fn put_left_out_if(out: &mut Vec<u8>, is: bool, what: &str) -> Result<(), AllocError>
-    ensures { IfOk result (λ _. out.new.items ≡ out.old.items ++ left_out_if is what.now) }
+pub(crate) fn put_left_out_if(out: &mut Names, is: bool, what: &str)
+    ensures { Puts out.old out.new (left_out_if is what.now) }
 {
     if is {
         put_left_out(out, what, b"")
-    } else {
-        Ok(())
     }
 }
 
 // Puts those of these names that are there, none of which has a name of its own.
-pub(crate) fn put_each_if(out: &mut Vec<u8>, names: &[(bool, &str)]) -> Result<(), AllocError>
-    ensures { IfOk result (λ _. out.new.items
-        ≡ out.old.items ++ flat_map (λ name. left_out_if name.0 name.1.now) names.now) }
+pub(crate) fn put_each_if(out: &mut Names, names: &[(bool, &str)])
+    ensures { Puts out.old out.new (flat_map (λ name. left_out_if name.0 name.1.now) names.now) }
 {
     for (is, what) in names {
-        put_left_out_if(out, *is, what)?;
+        put_left_out_if(out, *is, what);
     }
-    Ok(())
 }
 
 // Puts an object's first fault, in this field or in none.
 #[tactic(auto, unfolding(crate::specs::LeftOut::fault_text))]
-pub(crate) fn put_refused(out: &mut Vec<u8>, why: Why, field: &str) -> Result<(), AllocError>
-    ensures { IfOk result (λ _. out.new.items ≡ out.old.items ++ fault_text (refused why field.now)) }
+pub(crate) fn put_refused(out: &mut Names, why: Why, field: &str)
+    ensures { Puts out.old out.new (fault_text (refused why field.now)) }
 {
     put_left_out(out, why.text(), field.as_bytes())
 }
@@ -70,7 +111,12 @@ pub(crate) fn shown(name: &[u8]) -> &[u8]
 fn are_name_bytes(name: &[u8]) -> bool
     ensures { result ≡ list_all is_name_byte name.now }
 {
-    name.iter().all(|byte| is_name_byte(*byte))
+    for byte in name {
+        if !is_name_byte(*byte) {
+            return false;
+        }
+    }
+    true
 }
 
 // Whether a name of a script may have this byte.
@@ -98,13 +144,18 @@ fn end_of_first(names: &[u8]) -> usize
 
 // The names that are told, without the comma and the space in front of the first.
 #[tactic(auto, unfolding(crate::specs::LeftOut::told_names))]
-pub(crate) fn told_names(alloc: Global, names: &[u8]) -> Result<Vec<u8>, AllocError>
-    ensures { IfOk result (λ told. told.items ≡ drop 2 (told_names names.now)) }
+pub(crate) fn told_names(alloc: Global, names: &Names) -> Result<Vec<u8>, AllocError>
+    ensures whole { IfOk result (λ _. names.now.is_whole ≡ true) }
+    ensures told { IfOk result (λ told. told.items ≡ drop 2 (told_names names.now.bytes.items)) }
 {
-    let end = end_of_first(names);
-    let mut told = without_comma(alloc, &names[..end])?;
-    put_left_out_if(&mut told, end < names.len(), "others")?;
-    Ok(told)
+    let bytes = names.bytes.as_slice();
+    let end = end_of_first(bytes);
+    let mut told = Names {
+        bytes: without_comma(alloc, &bytes[..end])?,
+        is_whole: names.is_whole,
+    };
+    put_left_out_if(&mut told, end < bytes.len(), "others");
+    told.into_bytes()
 }
 
 // Items of an array, without the comma and the space in front of the first.

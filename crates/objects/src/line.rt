@@ -35,7 +35,9 @@ fn write_event(alloc: Global, writer: &mut Writer, event: &Event) -> Result<(), 
 {
     match event {
         Event::NodeSet { version, node } => write_node(alloc, writer, *version, node),
-        Event::NodeGone { version, name } => write_named(alloc, writer, "gone", *version, "name", name),
+        Event::NodeGone { version, name } => write_named(
+            alloc, writer, "gone", *version, "name", name,
+        ),
         Event::PodPending { version, pod } => write_pod(alloc, writer, *version, pod),
         Event::PodBound {
             version,
@@ -43,7 +45,9 @@ fn write_event(alloc: Global, writer: &mut Writer, event: &Event) -> Result<(), 
             node,
             request,
         } => write_bound(alloc, writer, *version, uid, node, request),
-        Event::PodGone { version, uid } => write_named(alloc, writer, "deleted", *version, "uid", uid),
+        Event::PodGone { version, uid } => write_named(
+            alloc, writer, "deleted", *version, "uid", uid,
+        ),
     }
 }
 
@@ -92,7 +96,10 @@ fn write_pod(
             ("priority", Field::Signed(pod.priority)),
             ("containers", Field::Request(&pod.request)),
             ("labels", Field::Labels(pod.labels.as_slice())),
-            ("tolerations", Field::Tolerations(pod.tolerations.as_slice())),
+            (
+                "tolerations",
+                Field::Tolerations(pod.tolerations.as_slice()),
+            ),
         ],
     )
 }

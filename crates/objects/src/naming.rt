@@ -1,9 +1,10 @@
 //! How people know the object that a line of the API tells of.
-ghost use Rattle.std.specs.Prelude.{◌≡◌, ◌++◌, IfOk};
+ghost use Rattle.std.specs.Prelude.{◌≡◌, IfOk};
 ghost use Rattle.serde_json.specs.View.{view};
 ghost use Rattle.objects.specs.ObjectName.{kind_shown, namespace_shown, known_as, object_name, name_in};
+ghost use Rattle.objects.specs.inside.Puts.{Puts};
 
-use crate::left_out::shown;
+use crate::left_out::{Names, shown};
 use crate::reading::{field, spelled};
 use crate::told::{object_in, parse};
 use crate::translation::MAX_OBJECT;
@@ -47,27 +48,15 @@ fn name_of(alloc: Global, json: &Value) -> Result<Vec<u8>, AllocError>
 fn known_as(alloc: Global, kind: &str, namespace: &str, name: &str) -> Result<Vec<u8>, AllocError>
     ensures { IfOk result (λ text. text.items ≡ known_as kind.now namespace.now name.now) }
 {
-    let mut text = Vec::new(alloc);
-    put_known_as(&mut text, kind, namespace, name)?;
-    Ok(text)
-}
-
-// Puts that name.
-fn put_known_as(
-    text: &mut Vec<u8>,
-    kind: &str,
-    namespace: &str,
-    name: &str,
-) -> Result<(), AllocError>
-    ensures { IfOk result (λ _. text.new.items ≡ text.old.items ++ known_as kind.now namespace.now name.now) }
-{
     if name.is_empty() {
-        return Ok(());
+        return Ok(Vec::new(alloc));
     }
-    text.extend_from_slice(kind_shown(kind))?;
-    text.extend_from_slice(b" ")?;
-    put_namespace(text, namespace)?;
-    text.extend_from_slice(shown(name.as_bytes()))
+    let mut text = Names::new(alloc);
+    text.put(kind_shown(kind));
+    text.put(b" ");
+    put_namespace(&mut text, namespace);
+    text.put(shown(name.as_bytes()));
+    text.into_bytes()
 }
 
 // A kind as it is shown: an item of a raw list says none.
@@ -82,12 +71,12 @@ fn kind_shown(kind: &str) -> &[u8]
 }
 
 // Puts a namespace and the slash behind it, where there is one.
-fn put_namespace(text: &mut Vec<u8>, namespace: &str) -> Result<(), AllocError>
-    ensures { IfOk result (λ _. text.new.items ≡ text.old.items ++ namespace_shown namespace.now) }
+fn put_namespace(text: &mut Names, namespace: &str)
+    ensures { Puts text.old text.new (namespace_shown namespace.now) }
 {
     if namespace.is_empty() {
-        return Ok(());
+        return;
     }
-    text.extend_from_slice(shown(namespace.as_bytes()))?;
-    text.extend_from_slice(b"/")
+    text.put(shown(namespace.as_bytes()));
+    text.put(b"/");
 }

@@ -2,12 +2,15 @@
 ghost use Rattle.std.specs.Prelude.{◌≡◌, []};
 ghost use Rattle.serde_json.specs.View.{view};
 ghost use Rattle.objects.specs.inside.Answers.{Gives};
-ghost use Rattle.objects.specs.NodeRow.{node_parts, node_row};
+ghost use Rattle.objects.specs.inside.Members.{kept};
+ghost use Rattle.objects.specs.inside.Puts.{WhenWhole};
+ghost use Rattle.objects.specs.NodeRow.{node_parts, node_labels, node_row};
 ghost use Rattle.objects.specs.Site.{site_of};
 
 use crate::amounts::allocatable;
 use crate::fault::ObjectFault;
 use crate::labels::fill_labels;
+use crate::left_out::Names;
 use crate::reading::{flag_of, members_at, members_of, name_at, part_of, within};
 use crate::site::Site;
 use crate::taints::fill_taints;
@@ -34,53 +37,44 @@ fn node_parts(
     Ok((name, allocatable, unschedulable))
 }
 
-// The same of the whole row, whose labels are put into an empty list, too: those that the site's
-// rules read come first. Puts the names of what the row leaves out.
-#[tactic(auto, unfolding(crate::specs::NodeRow::node_row))]
-fn fill_row(
+// Fills an empty list with a node's labels, of which those that the site's rules read come first.
+// Puts the names of what the row leaves out.
+#[tactic(auto, unfolding(crate::specs::NodeRow::node_labels))]
+fn fill_node_labels(
     labels: &mut AtMost<Label, MAX_LABELS>,
-    taints: &mut AtMost<Taint, MAX_TAINTS>,
+    out: &mut Names,
+    meta: &Value,
     json: &Value,
     site: &Site<'_>,
-    out: &mut Vec<u8>,
-) -> Result<(Name, Res, bool), ObjectFault>
+) -> Result<(), ObjectFault>
     requires labels { labels.old ≡ [] }
-    requires taints { taints.old ≡ [] }
-    requires out { out.old.items ≡ [] }
-    ensures { Gives (λ parts. record {
-      item = record {
-        name = parts.0;
-        allocatable = parts.1;
-        labels = labels.new;
-        taints = taints.new;
-        unschedulable = parts.2;
-      };
-      left_out = out.new.items;
-    }) result (node_row (site_of site.now) (view json.now)) }
+    requires out { out.old.bytes.items ≡ [] }
+    ensures { WhenWhole out.old out.new (Gives (λ _. kept labels.new out.new.bytes.items) result
+        (node_labels (site_of site.now) (view meta.now) (view json.now))) }
 {
-    let meta = part_of(json, "metadata")?;
-    let parts = node_parts(taints, meta, json)?;
     let found = members_at(meta, "labels")?;
     members_of(within(json, "status", "allocatable"), "allocatable")?;
-    fill_labels(labels, out, found, site)?;
-    Ok(parts)
+    fill_labels(labels, out, found, site)
 }
 
 // The row of a node's object, in which the labels that the site's rules read come first, and beside
 // it the names of what it leaves out, unless a fault comes first.
+#[tactic(auto, unfolding(crate::specs::NodeRow::node_row))]
 pub(crate) fn node_row(
     alloc: Global,
     json: &Value,
     site: &Site<'_>,
-    out: &mut Vec<u8>,
+    out: &mut Names,
 ) -> Result<Node, ObjectFault>
-    requires { out.old.items ≡ [] }
-    ensures { Gives (λ node. record { item = node; left_out = out.new.items }) result
-        (node_row (site_of site.now) (view json.now)) }
+    requires { out.old.bytes.items ≡ [] }
+    ensures { WhenWhole out.old out.new (Gives (λ node. record { item = node; left_out = out.new.bytes.items }) result
+        (node_row (site_of site.now) (view json.now))) }
 {
-    let mut labels = AtMost::new(alloc);
+    let meta = part_of(json, "metadata")?;
     let mut taints = AtMost::new(alloc);
-    let (name, allocatable, unschedulable) = fill_row(&mut labels, &mut taints, json, site, out)?;
+    let (name, allocatable, unschedulable) = node_parts(&mut taints, meta, json)?;
+    let mut labels = AtMost::new(alloc);
+    fill_node_labels(&mut labels, out, meta, json, site)?;
     Ok(Node {
         name,
         allocatable,

@@ -4,12 +4,15 @@ ghost use Rattle.quant.specs.Name.{is_name};
 ghost use Rattle.serde_json.specs.Find.{as_number, as_i64};
 ghost use Rattle.serde_json.specs.View.{view};
 ghost use Rattle.objects.specs.inside.Answers.{Gives, Answers};
-ghost use Rattle.objects.specs.PodRow.{pod_name, a_priority, priority, pod_parts, pod_row};
+ghost use Rattle.objects.specs.inside.Members.{kept};
+ghost use Rattle.objects.specs.inside.Puts.{WhenWhole};
+ghost use Rattle.objects.specs.PodRow.{pod_name, a_priority, priority, pod_parts, pod_lists, pod_row};
 ghost use Rattle.objects.specs.Site.{site_of};
 
 use crate::demands::put_wishes;
 use crate::fault::{ObjectFault, Why};
 use crate::labels::fill_labels;
+use crate::left_out::Names;
 use crate::reading::{field, items_at, members_at, name_at, part_of, text_at, text_or};
 use crate::request::{Reckoned, request};
 use crate::site::{Site, has_beside};
@@ -36,68 +39,51 @@ fn pod_parts(
     Ok((uid, priority, request))
 }
 
-// Reads those parts of a pod's object, and puts its labels, of which those that the site's rules
-// read come first, and its tolerations into empty lists, unless a fault comes first. Puts the names
-// of what the row leaves out.
-#[tactic(auto, unfolding(crate::specs::PodRow::pod_row))]
-fn fill_row(
-    alloc: Global,
+// Fills empty lists with a pod's labels, of which those that the site's rules read come first, and
+// its tolerations. Puts the names of what the row leaves out.
+#[tactic(auto, unfolding(crate::specs::PodRow::pod_lists))]
+fn fill_lists(
     labels: &mut AtMost<Label, MAX_LABELS>,
     tolerations: &mut AtMost<Toleration, MAX_TOLERATIONS>,
-    json: &Value,
+    out: &mut Names,
+    meta: &Value,
+    spec: &Value,
     site: &Site<'_>,
-    by_uid: bool,
-    out: &mut Vec<u8>,
-) -> Result<(Name, i32, Request), ObjectFault>
+) -> Result<(), ObjectFault>
     requires labels { labels.old ≡ [] }
     requires tolerations { tolerations.old ≡ [] }
-    requires out { out.old.items ≡ [] }
-    ensures { Gives (λ parts. record {
-      item = record {
-        uid = parts.0;
-        priority = parts.1;
-        request = parts.2;
-        labels = labels.new;
-        tolerations = tolerations.new;
-      };
-      left_out = out.new.items;
-    }) result (pod_row (site_of site.now) by_uid (view json.now)) }
+    requires out { out.old.bytes.items ≡ [] }
+    ensures { WhenWhole out.old out.new (Gives (λ _. (labels.new, kept tolerations.new out.new.bytes.items)) result
+        (pod_lists (site_of site.now) (view meta.now) (view spec.now))) }
 {
-    let meta = part_of(json, "metadata")?;
-    let spec = part_of(json, "spec")?;
-    let parts = pod_parts(alloc, meta, spec, json, by_uid)?;
     let found = members_at(meta, "labels")?;
     let items = items_at(spec, "tolerations")?;
-    put_wishes(out, spec, has_beside(site))?;
+    put_wishes(out, spec, has_beside(site));
     fill_labels(labels, out, found, site)?;
-    fill_tolerations(tolerations, out, items)?;
-    Ok(parts)
+    fill_tolerations(tolerations, out, items);
+    Ok(())
 }
 
 // The row of a pod's object, in which the labels that the site's rules read come first, and beside it
 // the names of what it leaves out, unless a fault comes first.
+#[tactic(auto, unfolding(crate::specs::PodRow::pod_row))]
 pub(crate) fn pod_row(
     alloc: Global,
     json: &Value,
     site: &Site<'_>,
     by_uid: bool,
-    out: &mut Vec<u8>,
+    out: &mut Names,
 ) -> Result<Pod, ObjectFault>
-    requires { out.old.items ≡ [] }
-    ensures { Gives (λ pod. record { item = pod; left_out = out.new.items }) result
-        (pod_row (site_of site.now) by_uid (view json.now)) }
+    requires { out.old.bytes.items ≡ [] }
+    ensures { WhenWhole out.old out.new (Gives (λ pod. record { item = pod; left_out = out.new.bytes.items }) result
+        (pod_row (site_of site.now) by_uid (view json.now))) }
 {
+    let meta = part_of(json, "metadata")?;
+    let spec = part_of(json, "spec")?;
+    let (uid, priority, request) = pod_parts(alloc, meta, spec, json, by_uid)?;
     let mut labels = AtMost::new(alloc);
     let mut tolerations = AtMost::new(alloc);
-    let (uid, priority, request) = fill_row(
-        alloc,
-        &mut labels,
-        &mut tolerations,
-        json,
-        site,
-        by_uid,
-        out,
-    )?;
+    fill_lists(&mut labels, &mut tolerations, out, meta, spec, site)?;
     Ok(Pod {
         uid,
         priority,

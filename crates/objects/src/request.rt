@@ -1,22 +1,23 @@
 //! What a pod asks of a node while it waits, and what it counts for once it stands on one.
-ghost use Rattle.std.specs.Prelude.{◌≡◌, ◌++◌, ◌+◌, ◌≤◌, ◌^◌, [], length, max, IfOk, vec_len, option_map, if◌then◌else◌};
+ghost use Rattle.std.specs.Prelude.{◌≡◌, ◌+◌, ◌≤◌, ◌^◌, [], length, max, Ok, IfOk, vec_len, option_map, if◌then◌else◌};
 ghost use Rattle.serde_json.specs.View.{view, items_view};
 ghost use Rattle.quant.specs.Request.{request_of};
 ghost use Rattle.objects.specs.Containers.{of, together, beside_others, going_on, peak, effective};
-ghost use Rattle.objects.specs.PodRequest.{stands, some_or_unread, some_container, within_limits, held_as_a_whole, by_containers, as_asked, or_more, as_held, in_all, running, request_by, request, more_left_out, is_status_read, are_read, are_statuses_read, is_whole_read, is_held_read};
+ghost use Rattle.objects.specs.PodRequest.{stands, some_or_unread, some_container, within_limits, held_as_a_whole, by_containers, as_asked, or_more, as_held, in_all, running, request, more_left_out, is_status_read, are_read, are_statuses_read, is_whole_read, is_held_read};
 ghost use Rattle.objects.specs.inside.Answers.{Gives, Answers};
+ghost use Rattle.objects.specs.inside.Puts.{Puts};
 
-use crate::amounts::{Part, amounts, at_most};
+use crate::amounts::{Part, amounts, amounts_or_most, at_most};
 use crate::containers::{
     Container, are_few, containers, larger, put_container, status_request, statuses, unread,
 };
 use crate::fault::{ObjectFault, Why};
-use crate::left_out::put_refused;
+use crate::left_out::{Names, put_refused};
 use crate::reading::{field, is_given, items_of};
 use crate::resource::Resource;
 use quant::{Bytes, Cpu, Request};
 use serde_json::Value;
-use std::alloc::{AllocError, Global};
+use std::alloc::Global;
 
 /// How a pod's request is reckoned.
 #[derive(Clone, Copy)]
@@ -51,6 +52,7 @@ impl Reckoned {
 // limits; `TooMany` above 65,536 containers; `PodResources` where the pod waits and asks for
 // resources as a whole; `TooLarge` where the request is above 2^30 thousandths of a core or 2^44
 // bytes; `NoMemory`, which may come in place of any other answer. Of a pod as it stands only that.
+#[tactic(auto, unfolding(crate::specs::PodRequest::request_by))]
 pub(crate) fn request(
     alloc: Global,
     pod: &Value,
@@ -59,23 +61,7 @@ pub(crate) fn request(
 ) -> Result<Request, ObjectFault>
     ensures { Answers result (request how (view pod.now) (view spec.now)) }
 {
-    match how {
-        Reckoned::Waiting | Reckoned::Placed => request_by(alloc, pod, spec, how, false),
-        Reckoned::Standing => request_by(alloc, pod, spec, how, true),
-    }
-}
-
-// The same, and whether a fault is taken as the worst that it could mean.
-#[tactic(auto, unfolding(crate::specs::PodRequest::request_by))]
-fn request_by(
-    alloc: Global,
-    pod: &Value,
-    spec: &Value,
-    how: Reckoned,
-    stands: bool,
-) -> Result<Request, ObjectFault>
-    ensures { Answers result (request_by stands how (view pod.now) (view spec.now)) }
-{
+    let stands = how.stands();
     let running = running(alloc, pod, spec, stands)?;
     let init = containers(
         alloc,
@@ -124,7 +110,7 @@ fn in_all(
     match how {
         Reckoned::Waiting => as_asked(spec, running, init, &overhead, false),
         Reckoned::Placed => as_asked(spec, running, init, &overhead, true),
-        Reckoned::Standing => as_held(pod, spec, running, init, &overhead),
+        Reckoned::Standing => Ok(as_held(pod, spec, running, init, &overhead)),
     }
 }
 
@@ -179,26 +165,26 @@ fn as_held(
     running: &[Container],
     init: &[Container],
     overhead: &Request,
-) -> Result<Request, ObjectFault>
+) -> Request
     requires running { length running.now ≤ 65536 }
     requires init { length init.now ≤ 65536 }
-    ensures { Answers result (as_held (view pod.now) (view spec.now) running.now init.now overhead.now) }
+    ensures { as_held (view pod.now) (view spec.now) running.now init.now overhead.now ≡ Ok result }
 {
-    let asked = amounts(spec, "spec", Part::Asked, true)?;
-    let holds = held_as_a_whole(field(pod, "status"))?;
+    let asked = amounts_or_most(spec, "spec", Part::Asked);
+    let holds = held_as_a_whole(field(pod, "status"));
     let whole = larger(&asked, &holds);
     let cpu = or_more(running, init, overhead, &whole, Resource::Cpu);
     let memory = or_more(running, init, overhead, &whole, Resource::Memory);
-    Ok(at_most(cpu, memory))
+    at_most(cpu, memory)
 }
 
 // What a pod holds as a whole.
-fn held_as_a_whole(status: Option<&Value>) -> Result<Request, ObjectFault>
-    ensures { Answers result (held_as_a_whole (option_map (λ v. view v.now) status.entry)) }
+fn held_as_a_whole(status: Option<&Value>) -> Request
+    ensures { held_as_a_whole (option_map (λ v. view v.now) status.entry) ≡ Ok result }
 {
     match status {
         Some(status) => status_request(status, "status"),
-        None => Ok(at_most(0, 0)),
+        None => at_most(0, 0),
     }
 }
 
@@ -220,19 +206,13 @@ fn or_more(
 
 // Puts the first fault by which a pod counts for more than it asks for.
 #[tactic(auto, unfolding(crate::specs::PodRequest::more_left_out))]
-pub(crate) fn put_more_left_out(
-    alloc: Global,
-    out: &mut Vec<u8>,
-    pod: &Value,
-    spec: &Value,
-) -> Result<(), AllocError>
-    ensures { IfOk result (λ _. out.new.items
-        ≡ out.old.items ++ more_left_out (view pod.now) (view spec.now)) }
+pub(crate) fn put_more_left_out(alloc: Global, out: &mut Names, pod: &Value, spec: &Value)
+    ensures { Puts out.old out.new (more_left_out (view pod.now) (view spec.now)) }
 {
     match request(alloc, pod, spec, Reckoned::Placed) {
-        Ok(_) => Ok(()),
+        Ok(_) => {}
         Err(ObjectFault::Refused(why, field)) => put_refused(out, why, field),
-        Err(ObjectFault::NoMemory) => Err(AllocError),
+        Err(ObjectFault::NoMemory) => out.is_whole = false,
     }
 }
 

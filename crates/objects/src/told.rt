@@ -1,21 +1,22 @@
 //! What an object of the API, or an event of its watch, gives a script.
-ghost use Rattle.std.specs.Prelude.{◌≡◌, ◌++◌, [], List, ℕ, Result, Some, None, Ok, Err, is_some, IfOk, option_and_then, option_map, if◌then◌else◌};
+ghost use Rattle.std.specs.Prelude.{◌≡◌, [], codes, List, ℕ, Result, Some, None, Ok, Err, is_some, IfOk, option_and_then, option_map, if◌then◌else◌};
 ghost use Rattle.serde_json.specs.View.{view};
 ghost use Rattle.serde_json.specs.Find.{as_array, as_object, as_str};
 ghost use Rattle.objects.specs.declared.change.Kind.TheVariants as kinds;
 ghost use Rattle.quant.specs.declared.event.Event.TheVariants.{PodPending};
 ghost use Rattle.objects.specs.declared.fault.Why.TheVariants as whys;
-ghost use Rattle.objects.specs.LeftOut.{refused, fault_text};
+ghost use Rattle.objects.specs.LeftOut.{left_out, refused, fault_text};
 ghost use Rattle.objects.specs.PodRow.{pod_row};
 ghost use Rattle.objects.specs.Site.{site_of, telling};
 ghost use Rattle.objects.specs.Told.{saying, name_in, name_of, gone, gone_told, gone_if, row_told, scheduler_of, other_scheduler, kept_back, waiting_told, bound_left_out, placed_told, bound_told, node_name, by_node, has_ended, pod_told, there_told, kind_told, core_kind, has_pod_shape, has_node_shape, kind_by_shape, kind_of, other_told, object_told, object_in, change_of, is_bookmark, value_told, is_space, is_blank, parsed, line_told};
 ghost use Rattle.objects.specs.inside.Answers.{Gives, Answers};
+ghost use Rattle.objects.specs.inside.Puts.{Puts, WhenWhole};
 ghost use Rattle.objects.specs.inside.Telling.{how_told, as_told};
 
 use crate::change::{Change, Kind};
 use crate::demands::{REQUIRED, asks, put_demands};
 use crate::fault::{ObjectFault, Why};
-use crate::left_out::{put_each_if, put_left_out, put_left_out_if, put_refused};
+use crate::left_out::{Names, put_each_if, put_left_out, put_left_out_if, put_refused};
 use crate::node_row::node_row;
 use crate::pod_row::{pod_name, pod_row};
 use crate::reading::{field, name_at, part_of, spelled, text_or, within};
@@ -49,19 +50,20 @@ fn gone(kind: Kind, version: Version, name: Name) -> Event
 
 // What is told of an object that is gone.
 fn gone_told(
-    out: &mut Vec<u8>,
+    out: &mut Names,
     json: &Value,
     kind: Kind,
     how: &Telling<'_>,
 ) -> Result<Option<Event>, ObjectFault>
-    requires { out.old.items ≡ [] }
-    ensures { Gives (as_told out.new.items) result (Ok (gone_told (how_told how.now) kind (view json.now))) }
+    requires { out.old.bytes.items ≡ [] }
+    ensures { WhenWhole out.old out.new (Gives (as_told out.new.bytes.items) result
+        (Ok (gone_told (how_told how.now) kind (view json.now)))) }
 {
     match name_of(json, kind, how.by_uid) {
         Ok(name) => Ok(Some(gone(kind, how.version, name))),
         Err(ObjectFault::NoMemory) => Err(ObjectFault::NoMemory),
         Err(ObjectFault::Refused(why, field)) => {
-            put_refused(out, why, field)?;
+            put_refused(out, why, field);
             Ok(None)
         }
     }
@@ -84,30 +86,31 @@ fn gone_if(json: &Value, kind: Kind, how: &Telling<'_>) -> Result<Option<Event>,
 
 // What is told of an object that has no row, by its first fault.
 fn fault_told(
-    out: &mut Vec<u8>,
+    out: &mut Names,
     why: Why,
     fault: &'static str,
     json: &Value,
     kind: Kind,
     how: &Telling<'_>,
 ) -> Result<Option<Event>, ObjectFault>
-    ensures { Gives (as_told out.new.items) result
-        (Ok (gone_if (how_told how.now) kind (view json.now) (fault_text (refused why fault.now)))) }
+    ensures { WhenWhole out.old out.new (Gives (as_told out.new.bytes.items) result
+        (Ok (gone_if (how_told how.now) kind (view json.now) (fault_text (refused why fault.now))))) }
 {
-    out.clear();
-    put_refused(out, why, fault)?;
+    out.bytes.clear();
+    put_refused(out, why, fault);
     gone_if(json, kind, how)
 }
 
 // What is told of a node that is there.
 fn node_told(
     alloc: Global,
-    out: &mut Vec<u8>,
+    out: &mut Names,
     json: &Value,
     how: &Telling<'_>,
 ) -> Result<Option<Event>, ObjectFault>
-    requires { out.old.items ≡ [] }
-    ensures { Gives (as_told out.new.items) result (there_told (how_told how.now) kinds.Node (view json.now)) }
+    requires { out.old.bytes.items ≡ [] }
+    ensures { WhenWhole out.old out.new (Gives (as_told out.new.bytes.items) result
+        (there_told (how_told how.now) kinds.Node (view json.now))) }
 {
     match node_row(alloc, json, &how.site, out) {
         Ok(node) => {
@@ -128,17 +131,17 @@ fn node_told(
 #[tactic(auto, unfolding(crate::specs::Told::waiting_told), using(crate::proofs::Faults::held_back))]
 fn waiting_told(
     alloc: Global,
-    out: &mut Vec<u8>,
+    out: &mut Names,
     spec: &Value,
     pod: &Value,
     how: &Telling<'_>,
 ) -> Result<Option<Event>, ObjectFault>
-    requires { out.old.items ≡ [] }
-    ensures { Gives (as_told out.new.items) result
-        (Ok (waiting_told (how_told how.now) (view spec.now) (view pod.now))) }
+    requires { out.old.bytes.items ≡ [] }
+    ensures { WhenWhole out.old out.new (Gives (as_told out.new.bytes.items) result
+        (Ok (waiting_told (how_told how.now) (view spec.now) (view pod.now)))) }
 {
-    put_kept_back(out, spec, pod, &how.site)?;
-    if out.is_empty() {
+    put_kept_back(out, spec, pod, &how.site);
+    if out.bytes.is_empty() {
         waiting_row(alloc, out, pod, how)
     } else {
         gone_if(pod, Kind::Pod, how)
@@ -149,14 +152,14 @@ fn waiting_told(
 // tell.
 fn waiting_row(
     alloc: Global,
-    out: &mut Vec<u8>,
+    out: &mut Names,
     json: &Value,
     how: &Telling<'_>,
 ) -> Result<Option<Event>, ObjectFault>
-    requires { out.old.items ≡ [] }
-    ensures { Gives (as_told out.new.items) result
+    requires { out.old.bytes.items ≡ [] }
+    ensures { WhenWhole out.old out.new (Gives (as_told out.new.bytes.items) result
         (Ok (row_told (PodPending how.now.version) (how_told how.now) kinds.Pod (view json.now)
-        (pod_row (site_of how.now.site) how.now.by_uid (view json.now)))) }
+        (pod_row (site_of how.now.site) how.now.by_uid (view json.now))))) }
 {
     match pod_row(alloc, json, &how.site, how.by_uid, out) {
         Ok(pod) => {
@@ -175,30 +178,23 @@ fn waiting_row(
 
 // Puts what keeps a waiting pod from being told.
 #[tactic(auto, unfolding(crate::specs::Told::kept_back))]
-fn put_kept_back(
-    out: &mut Vec<u8>,
-    spec: &Value,
-    pod: &Value,
-    site: &Site<'_>,
-) -> Result<(), AllocError>
-    requires { out.old.items ≡ [] }
-    ensures { IfOk result (λ _. out.new.items ≡ kept_back (site_of site.now) (view spec.now) (view pod.now)) }
+fn put_kept_back(out: &mut Names, spec: &Value, pod: &Value, site: &Site<'_>)
+    requires { out.old.bytes.items ≡ [] }
+    ensures { WhenWhole out.old out.new
+        (out.new.bytes.items ≡ kept_back (site_of site.now) (view spec.now) (view pod.now)) }
 {
-    put_other_scheduler(out, spec, site.scheduler)?;
-    put_demands(out, spec, has_beside(site))?;
+    put_other_scheduler(out, spec, site.scheduler);
+    put_demands(out, spec, has_beside(site));
     let is_deleted = within(pod, "metadata", "deletionTimestamp").is_some();
     put_left_out_if(out, is_deleted, "it is being deleted")
 }
 
 // Puts the name of the scheduler that is to place a pod, where it is another than this one.
-fn put_other_scheduler(out: &mut Vec<u8>, spec: &Value, scheduler: &str) -> Result<(), AllocError>
-    ensures { IfOk result (λ _. out.new.items
-        ≡ out.old.items ++ other_scheduler scheduler.now (scheduler_of (view spec.now))) }
+fn put_other_scheduler(out: &mut Names, spec: &Value, scheduler: &str)
+    ensures { Puts out.old out.new (other_scheduler scheduler.now (scheduler_of (view spec.now))) }
 {
     let named = scheduler_of(spec);
-    if named == scheduler {
-        Ok(())
-    } else {
+    if named != scheduler {
         put_left_out(out, "it is for the scheduler ", named.as_bytes())
     }
 }
@@ -217,20 +213,20 @@ fn scheduler_of(spec: &Value) -> &str
 // What is told of a pod that stands on a node.
 fn bound_told(
     alloc: Global,
-    out: &mut Vec<u8>,
+    out: &mut Names,
     node: &str,
     spec: &Value,
     pod: &Value,
     how: &Telling<'_>,
 ) -> Result<Option<Event>, ObjectFault>
-    requires { out.old.items ≡ [] }
-    ensures { Gives (as_told out.new.items) result
-        (bound_told (how_told how.now) node.now (view spec.now) (view pod.now)) }
+    requires { out.old.bytes.items ≡ [] }
+    ensures { WhenWhole out.old out.new (Gives (as_told out.new.bytes.items) result
+        (bound_told (how_told how.now) node.now (view spec.now) (view pod.now))) }
 {
     match Name::new(node.as_bytes()) {
         Ok(name) => placed_told(alloc, out, name, spec, pod, how),
         Err(_) => {
-            put_left_out(out, "node ", node.as_bytes())?;
+            put_left_out(out, "node ", node.as_bytes());
             gone_if(pod, Kind::Pod, how)
         }
     }
@@ -240,19 +236,19 @@ fn bound_told(
 #[tactic(auto, unfolding(crate::specs::Told::placed_told))]
 fn placed_told(
     alloc: Global,
-    out: &mut Vec<u8>,
+    out: &mut Names,
     node: Name,
     spec: &Value,
     pod: &Value,
     how: &Telling<'_>,
 ) -> Result<Option<Event>, ObjectFault>
-    requires { out.old.items ≡ [] }
-    ensures { Gives (as_told out.new.items) result
-        (placed_told (how_told how.now) node (view spec.now) (view pod.now)) }
+    requires { out.old.bytes.items ≡ [] }
+    ensures { WhenWhole out.old out.new (Gives (as_told out.new.bytes.items) result
+        (placed_told (how_told how.now) node (view spec.now) (view pod.now))) }
 {
     let uid = name_of(pod, Kind::Pod, how.by_uid)?;
     let request = request(alloc, pod, spec, Reckoned::Standing)?;
-    put_bound_left_out(alloc, out, spec, pod)?;
+    put_bound_left_out(alloc, out, spec, pod);
     Ok(Some(Event::PodBound {
         version: how.version,
         uid,
@@ -262,16 +258,10 @@ fn placed_told(
 }
 
 // Puts what isn't told of a pod that stands on a node.
-fn put_bound_left_out(
-    alloc: Global,
-    out: &mut Vec<u8>,
-    spec: &Value,
-    pod: &Value,
-) -> Result<(), AllocError>
-    ensures { IfOk result (λ _. out.new.items
-        ≡ out.old.items ++ bound_left_out (view spec.now) (view pod.now)) }
+fn put_bound_left_out(alloc: Global, out: &mut Names, spec: &Value, pod: &Value)
+    ensures { Puts out.old out.new (bound_left_out (view spec.now) (view pod.now)) }
 {
-    put_more_left_out(alloc, out, pod, spec)?;
+    put_more_left_out(alloc, out, pod, spec);
     put_each_if(
         out,
         &[
@@ -304,12 +294,13 @@ pub(crate) fn has_ended(json: &Value) -> bool
 #[tactic(auto, unfolding(crate::specs::Told::pod_told))]
 fn pod_told(
     alloc: Global,
-    out: &mut Vec<u8>,
+    out: &mut Names,
     json: &Value,
     how: &Telling<'_>,
 ) -> Result<Option<Event>, ObjectFault>
-    requires { out.old.items ≡ [] }
-    ensures { Gives (as_told out.new.items) result (pod_told (how_told how.now) (view json.now)) }
+    requires { out.old.bytes.items ≡ [] }
+    ensures { WhenWhole out.old out.new
+        (Gives (as_told out.new.bytes.items) result (pod_told (how_told how.now) (view json.now))) }
 {
     if has_ended(json) {
         return gone_if(json, Kind::Pod, how);
@@ -338,13 +329,14 @@ pub(crate) fn node_name(spec: &Value) -> Result<&str, ObjectFault>
 #[tactic(auto, unfolding(crate::specs::Told::kind_told))]
 fn kind_told(
     alloc: Global,
-    out: &mut Vec<u8>,
+    out: &mut Names,
     json: &Value,
     kind: Kind,
     how: &Telling<'_>,
 ) -> Result<Option<Event>, ObjectFault>
-    requires { out.old.items ≡ [] }
-    ensures { Gives (as_told out.new.items) result (kind_told (how_told how.now) kind (view json.now)) }
+    requires { out.old.bytes.items ≡ [] }
+    ensures { WhenWhole out.old out.new
+        (Gives (as_told out.new.bytes.items) result (kind_told (how_told how.now) kind (view json.now))) }
 {
     match how.change {
         Change::Gone => gone_told(out, json, kind, how),
@@ -427,15 +419,15 @@ pub(crate) fn kind_of(json: &Value) -> Result<Option<Kind>, ObjectFault>
 }
 
 // What is told of an object of another kind: a list may hold pods.
-fn other_told(out: &mut Vec<u8>, json: &Value) -> Result<Option<Event>, ObjectFault>
-    requires { out.old.items ≡ [] }
-    ensures { Gives (as_told out.new.items) result (other_told (view json.now)) }
+fn other_told(out: &mut Names, json: &Value) -> Result<Option<Event>, ObjectFault>
+    requires { out.old.bytes.items ≡ [] }
+    ensures { WhenWhole out.old out.new (Gives (as_told out.new.bytes.items) result (other_told (view json.now))) }
 {
     if field(json, "items").is_some() {
         return Err(ObjectFault::Refused(Why::IsList, ""));
     }
     let kind = spelled(json, "kind");
-    put_left_out(out, "an object of the kind ", kind.as_bytes())?;
+    put_left_out(out, "an object of the kind ", kind.as_bytes());
     Ok(None)
 }
 
@@ -443,16 +435,35 @@ fn other_told(out: &mut Vec<u8>, json: &Value) -> Result<Option<Event>, ObjectFa
 #[tactic(auto, unfolding(crate::specs::Told::object_told))]
 fn object_told(
     alloc: Global,
-    out: &mut Vec<u8>,
+    out: &mut Names,
     json: &Value,
     how: &Telling<'_>,
 ) -> Result<Option<Event>, ObjectFault>
-    requires { out.old.items ≡ [] }
-    ensures { Gives (as_told out.new.items) result (object_told (how_told how.now) (view json.now)) }
+    requires { out.old.bytes.items ≡ [] }
+    ensures { WhenWhole out.old out.new
+        (Gives (as_told out.new.bytes.items) result (object_told (how_told how.now) (view json.now))) }
 {
     match kind_of(json)? {
         Some(kind) => kind_told(alloc, out, json, kind, how),
         None => other_told(out, json),
+    }
+}
+
+// The same, where memory was there for all the names that were put.
+fn whole_told(
+    alloc: Global,
+    out: &mut Names,
+    json: &Value,
+    how: &Telling<'_>,
+) -> Result<Option<Event>, ObjectFault>
+    requires { out.old.bytes.items ≡ [] }
+    ensures { Gives (as_told out.new.bytes.items) result (object_told (how_told how.now) (view json.now)) }
+{
+    let told = object_told(alloc, out, json, how);
+    if out.is_whole {
+        told
+    } else {
+        Err(ObjectFault::NoMemory)
     }
 }
 
@@ -495,14 +506,15 @@ fn no_change(kind: &str) -> Result<Option<Event>, ObjectFault>
 #[tactic(auto, unfolding(crate::specs::Told::value_told))]
 pub(crate) fn value_told(
     alloc: Global,
-    out: &mut Vec<u8>,
+    out: &mut Names,
     json: &Value,
     site: &Site<'_>,
     by_uid: bool,
     version: Version,
 ) -> Result<Option<Event>, ObjectFault>
-    requires { out.old.items ≡ [] }
-    ensures { Gives (as_told out.new.items) result (value_told (site_of site.now) by_uid version (view json.now)) }
+    requires { out.old.bytes.items ≡ [] }
+    ensures { Gives (as_told out.new.bytes.items) result
+        (value_told (site_of site.now) by_uid version (view json.now)) }
 {
     let mut how = Telling {
         site: *site,
@@ -511,35 +523,34 @@ pub(crate) fn value_told(
         change: Change::There,
     };
     let Some(object) = field(json, "object") else {
-        return object_told(alloc, out, json, &how);
+        return whole_told(alloc, out, json, &how);
     };
     let kind = spelled(json, "type");
     let Some(change) = change_of(kind) else {
         return no_change(kind);
     };
     how.change = change;
-    object_told(alloc, out, object, &how)
+    whole_told(alloc, out, object, &how)
 }
 
 // What is told by a line.
 #[tactic(auto, unfolding(crate::specs::Told::line_told))]
 pub(crate) fn line_told(
     alloc: Global,
-    out: &mut Vec<u8>,
+    out: &mut Names,
     line: &[u8],
     site: &Site<'_>,
     by_uid: bool,
     version: Version,
 ) -> Result<Option<Event>, ObjectFault>
-    requires { out.old.items ≡ [] }
-    ensures { Gives (as_told out.new.items) result (line_told (site_of site.now) by_uid version line.now) }
+    requires { out.old.bytes.items ≡ [] }
+    ensures { Gives (as_told out.new.bytes.items) result (line_told (site_of site.now) by_uid version line.now) }
 {
     if line.len() > MAX_OBJECT {
         return Err(ObjectFault::Refused(Why::LongLine, ""));
     }
     if is_blank(line) {
-        put_left_out(out, "no JSON", b"")?;
-        return Ok(None);
+        return blank_told(out);
     }
     match parse(alloc, line)? {
         Some(json) => value_told(alloc, out, &json, site, by_uid, version),
@@ -547,11 +558,29 @@ pub(crate) fn line_told(
     }
 }
 
+// What is told by a line of nothing but spaces.
+fn blank_told(out: &mut Names) -> Result<Option<Event>, ObjectFault>
+    requires { out.old.bytes.items ≡ [] }
+    ensures { Gives (as_told out.new.bytes.items) result (Ok (saying None (left_out (codes "no JSON") []))) }
+{
+    put_left_out(out, "no JSON", b"");
+    if out.is_whole {
+        Ok(None)
+    } else {
+        Err(ObjectFault::NoMemory)
+    }
+}
+
 // Whether a line has no byte but spaces.
 pub(crate) fn is_blank(line: &[u8]) -> bool
     ensures { result ≡ is_blank line.now }
 {
-    line.iter().all(|byte| is_space(*byte))
+    for byte in line {
+        if !is_space(*byte) {
+            return false;
+        }
+    }
+    true
 }
 
 // Whether a byte is a space of JSON.

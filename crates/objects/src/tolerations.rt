@@ -1,5 +1,5 @@
 //! The tolerations that a row has of a pod's.
-ghost use Rattle.std.specs.Prelude.{◌≡◌, ◌<◌, codes, length, IfOk, OnSome, option_map, option_and_then};
+ghost use Rattle.std.specs.Prelude.{◌≡◌, ◌<◌, codes, length, OnSome, option_map, option_and_then};
 ghost use Rattle.serde_json.specs.View.{view, items_view};
 ghost use Rattle.manifest.specs.Rows.{operator_named, effect_or_none};
 ghost use Rattle.objects.specs.Reading.{spelled};
@@ -7,43 +7,52 @@ ghost use Rattle.objects.specs.Reading.{field};
 ghost use Rattle.objects.specs.Labels.{with_item};
 ghost use Rattle.objects.specs.PodRow.{text_if, fitting, toleration_of, tolerations_of};
 ghost use Rattle.objects.specs.inside.Members.{kept};
+ghost use Rattle.objects.specs.inside.Puts.{WhenWhole};
 
-use crate::left_out::put_left_out;
+use crate::left_out::{Names, put_left_out};
 use crate::reading::{field, spelled};
 use manifest::{effect_or_none, is_lawful, operator_named};
 use quant::{AtMost, Effect, MAX_TOLERATIONS, Operator, Text, Toleration};
 use serde_json::Value;
-use std::alloc::AllocError;
 
 // Puts the tolerations of an array's items behind others, in memory that is taken once, and the
 // names of those that are left out.
 pub(crate) fn fill_tolerations(
     tolerations: &mut AtMost<Toleration, MAX_TOLERATIONS>,
-    out: &mut Vec<u8>,
+    out: &mut Names,
     found: &[Value],
-) -> Result<(), AllocError>
-    ensures { IfOk result (λ _. tolerations_of (kept tolerations.old out.old.items) (items_view found.now)
-        ≡ kept tolerations.new out.new.items) }
+)
+    ensures { WhenWhole out.old out.new
+        (tolerations_of (kept tolerations.old out.old.bytes.items) (items_view found.now)
+        ≡ kept tolerations.new out.new.bytes.items) }
 {
-    tolerations.reserve(found.len().min(MAX_TOLERATIONS))?;
+    let Ok(()) = tolerations.reserve(found.len().min(MAX_TOLERATIONS)) else {
+        out.is_whole = false;
+        return;
+    };
     for item in found {
-        take_toleration(tolerations, out, item)?;
+        take_toleration(tolerations, out, item);
     }
-    Ok(())
 }
 
 // Takes a toleration behind others, or puts the name of one that is left out.
 fn take_toleration(
     tolerations: &mut AtMost<Toleration, MAX_TOLERATIONS>,
-    out: &mut Vec<u8>,
+    out: &mut Names,
     item: &Value,
-) -> Result<(), AllocError>
-    ensures { IfOk result (λ _. with_item (codes "toleration of ") (spelled (codes "key") (view item.now))
-        (kept tolerations.old out.old.items) (toleration_of tolerations.old (view item.now))
-        ≡ kept tolerations.new out.new.items) }
+)
+    ensures { WhenWhole out.old out.new
+        (with_item (codes "toleration of ") (spelled (codes "key") (view item.now))
+        (kept tolerations.old out.old.bytes.items) (toleration_of tolerations.old (view item.now))
+        ≡ kept tolerations.new out.new.bytes.items) }
 {
     match toleration_of(tolerations.as_slice(), item) {
-        Some(toleration) => tolerations.push(toleration),
+        Some(toleration) => {
+            let Ok(()) = tolerations.push(toleration) else {
+                out.is_whole = false;
+                return;
+            };
+        }
         None => put_left_out(out, "toleration of ", spelled(item, "key").as_bytes()),
     }
 }

@@ -9,7 +9,7 @@ ghost use Rattle.objects.specs.Translation.{Spells, IsTranslation};
 ghost use Rattle.objects.specs.inside.Said.{IsSaid};
 
 use crate::fault::ObjectFault;
-use crate::left_out::{put_refused, told_names};
+use crate::left_out::{Names, put_refused, told_names};
 use crate::line::write_line;
 use crate::site::Site;
 use crate::told::line_told;
@@ -72,10 +72,10 @@ pub fn translate(
     ensures short { IfOk result (λ translation. length translation.left_out.items ≤ 100000) }
     ensures counted { IsCounted version line.now (told (site_of site.now) by_uid version line.now) }
 {
-    let mut out = Vec::new(alloc);
+    let mut out = Names::new(alloc);
     let (event, uncounted) = told(alloc, &mut out, line, site, by_uid, version)?;
     let line = spelled(alloc, event)?;
-    let left_out = told_names(alloc, out.as_slice())?;
+    let left_out = told_names(alloc, &out)?;
     Ok(Translation {
         line,
         left_out,
@@ -88,23 +88,27 @@ pub fn translate(
 #[tactic(auto, unfolding(crate::specs::Told::told))]
 fn told(
     alloc: Global,
-    out: &mut Vec<u8>,
+    out: &mut Names,
     line: &[u8],
     site: &Site<'_>,
     by_uid: bool,
     version: Version,
 ) -> Result<(Option<Event>, bool), AllocError>
-    requires { out.old.items ≡ [] }
+    requires { out.old.bytes.items ≡ [] }
     ensures { IfOk result (λ found. told (site_of site.now) by_uid version line.now
-        ≡ record { event = found.0; left_out = out.new.items; uncounted = found.1 }) }
+        ≡ record { event = found.0; left_out = out.new.bytes.items; uncounted = found.1 }) }
 {
     match line_told(alloc, out, line, site, by_uid, version) {
         Ok(event) => Ok((event, false)),
         Err(ObjectFault::NoMemory) => Err(AllocError),
         Err(ObjectFault::Refused(why, field)) => {
-            out.clear();
-            put_refused(out, why, field)?;
-            Ok((None, true))
+            out.bytes.clear();
+            put_refused(out, why, field);
+            if out.is_whole {
+                Ok((None, true))
+            } else {
+                Err(AllocError)
+            }
         }
     }
 }

@@ -1,12 +1,12 @@
 use Rattle.std.proofs.Common.{append_assoc, append-nil}
 use Rattle.objects.specs.Demands.{wishes}
-use Rattle.objects.proofs.Added.{with_last}
+use Rattle.objects.proofs.Puts.{so}
 use Rattle.objects.proofs.demands.put_wishes.Goals as goal
 
 pub returns : goal.returns
 unfolding wishes
 returns c =
-    with_last c.put_each_if.result _ _ c.put_each_if.ensures (λ put. rw (
+    so c.put_each_if.ensures (λ put. rw (
       put,
       c.is_untold.ensures,
       c.affinity-nodes.ensures,

@@ -10,9 +10,9 @@ use Rattle.objects.proofs.translation.translate.Goals as goal
 pub returns-clause-short : goal.returns-clause-short
 returns-clause-short c =
     let given = told (site_of c.args.site.now) c.args.by_uid c.args.version c.args.line.now in
-    let names : c.as_slice.result.now ≡ given.left_out = c.as_slice.ensures.value ∙ ap (λ (t : Told). t.left_out) (sym c.in_ok-event.ensures) in
+    let names : c.told.new.out.bytes.items ≡ given.left_out = ap (λ (t : Told). t.left_out) (sym c.in_ok-event.ensures) in
     told_names_are_short (site_of c.args.site.now) c.args.by_uid c.args.version c.args.line.now c.in_ok-left_out.left_out.items
-    (c.in_ok-left_out.ensures ∙ ap (λ n. drop 2 (told_names n)) names)
+    (c.in_ok-left_out.ensures.told ∙ ap (λ n. drop 2 (told_names n)) names)
 
 pub spelled-requires : goal.spelled-requires
 spelled-requires c =
