@@ -13,13 +13,11 @@ use Rattle.objects.specs.inside.Answers.{Fails, Gives, Answers}
 use Rattle.objects.specs.inside.Telling.{as_told}
 
 -- what keeps a pod back that waits
-pub held_back : (how : Telling) (spec pod : Data) (out : List ℕ) (result : Result (Option Event) ObjectFault)
-    → ¬ (out ≡ []) → out ≡ kept_back how.site spec pod
-    → Gives (as_told out) result (Ok (gone_if how kinds.Pod pod out))
-    → Gives (as_told out) result (Ok (waiting_told how spec pod))
+pub held_back : (how : Telling) (spec pod : Data) (out : List ℕ) → ¬ (out ≡ []) → out ≡ kept_back how.site spec pod
+    → waiting_told how spec pod ≡ gone_if how kinds.Pod pod out
 unfolding waiting_told
-held_back how spec pod [] result some e h = absurd (some refl)
-held_back how spec pod (x ∷ more) result some e h = rw (sym e) h
+held_back how spec pod [] some e = absurd (some refl)
+held_back how spec pod (x ∷ more) some e = rw (sym e) refl
 
 -- the fault of a reading is that of what is read behind it, too
 pub fault_first : {X Y Z : Type 0} (view : X → Z) (result : Result X ObjectFault) (e : ObjectFault) (r : Result Y Fault) (f : Y → Result Z Fault)

@@ -1,5 +1,5 @@
 //! What the API tells of nodes and pods, as of their own versions.
-ghost use Rattle.std.specs.Prelude.{◌≡◌, ◌<◌, [], true, length, Ok, option_map, IfOk, IsTrue};
+ghost use Rattle.std.specs.Prelude.{◌≡◌, ◌<◌, [], true, length, option_map, IfOk, IsTrue};
 ghost use Rattle.std.specs.List.{list_all};
 ghost use Rattle.quant.specs.Amount.{is_digit, number};
 ghost use Rattle.serde_json.specs.View.{view};
@@ -173,7 +173,7 @@ fn heard_by(version: Version, json: &Value, event: Option<Event>) -> Result<Hear
     ensures { Answers result (heard_by version (view json.now) event) }
 {
     let object = object_in(json);
-    if !is_row(&event) && !shows_none(json) && is_waiting(object)? {
+    if !is_row(&event) && !shows_none(json) && is_waiting(object) {
         let uid = uid_of(object)?;
         return Ok(Heard::Withheld { version, uid });
     }
@@ -201,27 +201,25 @@ fn shows_none(json: &Value) -> bool
 
 // Whether an object is a pod that hasn't ended and has no node.
 #[tactic(auto, unfolding(crate::specs::Heard::is_waiting))]
-fn is_waiting(object: &Value) -> Result<bool, ObjectFault>
-    ensures { Answers result (Ok (is_waiting (view object.now))) }
+fn is_waiting(object: &Value) -> bool
+    ensures { result ≡ is_waiting (view object.now) }
 {
     match kind_of(object) {
         Ok(Some(Kind::Pod)) if !has_ended(object) => has_no_node(field(object, "spec")),
-        Ok(_) | Err(ObjectFault::Refused(_, _)) => Ok(false),
-        Err(ObjectFault::NoMemory) => Err(ObjectFault::NoMemory),
+        _ => false,
     }
 }
 
 // Whether what a pod is to be names no node.
-fn has_no_node(spec: Option<&Value>) -> Result<bool, ObjectFault>
-    ensures { Answers result (Ok (has_no_node (option_map (λ v. view v.now) spec.entry))) }
+fn has_no_node(spec: Option<&Value>) -> bool
+    ensures { result ≡ has_no_node (option_map (λ v. view v.now) spec.entry) }
 {
     let Some(spec) = spec else {
-        return Ok(false);
+        return false;
     };
     match node_name(spec) {
-        Ok(name) => Ok(name.is_empty()),
-        Err(ObjectFault::Refused(_, _)) => Ok(false),
-        Err(ObjectFault::NoMemory) => Err(ObjectFault::NoMemory),
+        Ok(name) => name.is_empty(),
+        Err(_) => false,
     }
 }
 

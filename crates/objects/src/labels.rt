@@ -32,7 +32,8 @@ pub(crate) fn fill_labels(
         (members_or_none (option_map (λ m. members_view m.now.entries) found.entry)))) }
 {
     let beside = members_of(site.beside, "labels")?;
-    let (told, own) = (count(beside), count(found));
+    let told = count(beside);
+    let own = count(found);
     if !have_room(told, own) && site.labels.is_empty() {
         return Err(ObjectFault::Refused(Why::TooMany, "labels"));
     }

@@ -3,7 +3,7 @@ ghost use Rattle.std.specs.Prelude.{◌≡◌, ◌+◌, ◌<◌, ◌++◌, [], l
 ghost use Rattle.quant.specs.Name.{is_name};
 ghost use Rattle.serde_json.specs.Find.{as_number, as_i64};
 ghost use Rattle.serde_json.specs.View.{view};
-ghost use Rattle.objects.specs.inside.Answers.{Gives, Answers};
+ghost use Rattle.objects.specs.inside.Answers.{Gives, Answers, Tells};
 ghost use Rattle.objects.specs.inside.Members.{kept};
 ghost use Rattle.objects.specs.inside.Puts.{WhenWhole};
 ghost use Rattle.objects.specs.PodRow.{pod_name, a_priority, priority, pod_parts, pod_lists, pod_row};
@@ -97,7 +97,7 @@ pub(crate) fn pod_row(
 // isn't asked for, and by its uid otherwise.
 #[tactic(auto, unfolding(crate::specs::PodRow::pod_name))]
 pub(crate) fn pod_name(meta: &Value, by_uid: bool) -> Result<Name, ObjectFault>
-    ensures { Answers result (pod_name by_uid (view meta.now)) }
+    ensures { Tells (λ name. name) result (pod_name by_uid (view meta.now)) }
 {
     if by_uid {
         return name_at(meta, "uid");

@@ -31,7 +31,7 @@ pub(crate) fn within<'a>(object: &'a Value, outer: &str, inner: &str) -> Option<
 // A field that has to be there.
 #[tactic(auto, unfolding(crate::specs::Reading::part_of))]
 pub(crate) fn part_of<'a>(object: &'a Value, key: &'static str) -> Result<&'a Value, ObjectFault>
-    ensures { Gives (λ value. view value.now) result (part_of key.now (view object.now)) }
+    ensures { Tells (λ value. view value.now) result (part_of key.now (view object.now)) }
 {
     field(object, key).ok_or(ObjectFault::Refused(Why::BadField, key))
 }
@@ -46,7 +46,7 @@ fn text_in<'a>(object: &'a Value, key: &str) -> Option<&'a str>
 // A text that has to be there.
 #[tactic(auto, unfolding(crate::specs::Reading::text_at))]
 pub(crate) fn text_at<'a>(object: &'a Value, key: &'static str) -> Result<&'a str, ObjectFault>
-    ensures { Gives (λ text. text.now) result (text_at key.now (view object.now)) }
+    ensures { Tells (λ text. text.now) result (text_at key.now (view object.now)) }
 {
     text_in(object, key).ok_or(ObjectFault::Refused(Why::BadField, key))
 }
@@ -58,7 +58,7 @@ pub(crate) fn text_or<'a>(
     key: &'static str,
     absent: &'static str,
 ) -> Result<&'a str, ObjectFault>
-    ensures { Gives (λ text. text.now) result (text_or key.now absent.now (view object.now)) }
+    ensures { Tells (λ text. text.now) result (text_or key.now absent.now (view object.now)) }
 {
     match field(object, key) {
         Some(value) => value
@@ -71,7 +71,7 @@ pub(crate) fn text_or<'a>(
 // A name that has to be there.
 #[tactic(auto, unfolding(crate::specs::Reading::name_at))]
 pub(crate) fn name_at(object: &Value, key: &'static str) -> Result<Name, ObjectFault>
-    ensures { Answers result (name_at key.now (view object.now)) }
+    ensures { Tells (λ name. name) result (name_at key.now (view object.now)) }
 {
     let text = text_at(object, key)?;
     match Name::new(text.as_bytes()) {

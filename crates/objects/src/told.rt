@@ -8,8 +8,8 @@ ghost use Rattle.objects.specs.declared.fault.Why.TheVariants as whys;
 ghost use Rattle.objects.specs.LeftOut.{left_out, refused, fault_text};
 ghost use Rattle.objects.specs.PodRow.{pod_row};
 ghost use Rattle.objects.specs.Site.{site_of, telling};
-ghost use Rattle.objects.specs.Told.{saying, name_in, name_of, gone, gone_told, gone_if, row_told, scheduler_of, other_scheduler, kept_back, waiting_told, bound_left_out, placed_told, bound_told, node_name, by_node, has_ended, pod_told, there_told, kind_told, core_kind, has_pod_shape, has_node_shape, kind_by_shape, kind_of, other_told, object_told, object_in, change_of, is_bookmark, value_told, is_space, is_blank, parsed, line_told};
-ghost use Rattle.objects.specs.inside.Answers.{Gives, Answers};
+ghost use Rattle.objects.specs.Told.{saying, name_in, name_of, gone, gone_told, event_if, gone_if, row_told, scheduler_of, other_scheduler, kept_back, waiting_told, bound_left_out, placed_told, bound_told, node_name, by_node, has_ended, pod_told, there_told, kind_told, core_kind, has_pod_shape, has_node_shape, kind_by_shape, kind_of, other_told, object_told, object_in, change_of, is_bookmark, value_told, is_space, is_blank, parsed, line_told};
+ghost use Rattle.objects.specs.inside.Answers.{Gives, Tells};
 ghost use Rattle.objects.specs.inside.Puts.{Puts, WhenWhole};
 ghost use Rattle.objects.specs.inside.Telling.{how_told, as_told};
 
@@ -29,7 +29,7 @@ use std::alloc::{AllocError, Global};
 
 // The name by which a script calls an object.
 fn name_of(json: &Value, kind: Kind, by_uid: bool) -> Result<Name, ObjectFault>
-    ensures { Answers result (name_of kind by_uid (view json.now)) }
+    ensures { Tells (λ name. name) result (name_of kind by_uid (view json.now)) }
 {
     let meta = part_of(json, "metadata")?;
     match kind {
@@ -49,38 +49,34 @@ fn gone(kind: Kind, version: Version, name: Name) -> Event
 }
 
 // What is told of an object that is gone.
-fn gone_told(
-    out: &mut Names,
-    json: &Value,
-    kind: Kind,
-    how: &Telling<'_>,
-) -> Result<Option<Event>, ObjectFault>
+fn gone_told(out: &mut Names, json: &Value, kind: Kind, how: &Telling<'_>) -> Option<Event>
     requires { out.old.bytes.items ≡ [] }
-    ensures { WhenWhole out.old out.new (Gives (as_told out.new.bytes.items) result
-        (Ok (gone_told (how_told how.now) kind (view json.now)))) }
+    ensures { WhenWhole out.old out.new
+        (gone_told (how_told how.now) kind (view json.now) ≡ as_told out.new.bytes.items result) }
 {
     match name_of(json, kind, how.by_uid) {
-        Ok(name) => Ok(Some(gone(kind, how.version, name))),
-        Err(ObjectFault::NoMemory) => Err(ObjectFault::NoMemory),
+        Ok(name) => Some(gone(kind, how.version, name)),
         Err(ObjectFault::Refused(why, field)) => {
             put_refused(out, why, field);
-            Ok(None)
+            None
+        }
+        Err(ObjectFault::NoMemory) => {
+            out.is_whole = false;
+            None
         }
     }
 }
 
 // The event by which it is told that an object is gone which isn't told any more as it has become.
-fn gone_if(json: &Value, kind: Kind, how: &Telling<'_>) -> Result<Option<Event>, ObjectFault>
-    ensures { (left_out : List ℕ) → Gives (as_told left_out) result
-        (Ok (gone_if (how_told how.now) kind (view json.now) left_out)) }
+fn gone_if(json: &Value, kind: Kind, how: &Telling<'_>) -> Option<Event>
+    ensures { result ≡ event_if kind how.now.version how.now.change (name_of kind how.now.by_uid (view json.now)) }
 {
     match how.change {
         Change::Changed => match name_of(json, kind, how.by_uid) {
-            Ok(name) => Ok(Some(gone(kind, how.version, name))),
-            Err(ObjectFault::NoMemory) => Err(ObjectFault::NoMemory),
-            Err(ObjectFault::Refused(_, _)) => Ok(None),
+            Ok(name) => Some(gone(kind, how.version, name)),
+            Err(_) => None,
         },
-        Change::There | Change::Gone => Ok(None),
+        Change::There | Change::Gone => None,
     }
 }
 
@@ -92,9 +88,10 @@ fn fault_told(
     json: &Value,
     kind: Kind,
     how: &Telling<'_>,
-) -> Result<Option<Event>, ObjectFault>
-    ensures { WhenWhole out.old out.new (Gives (as_told out.new.bytes.items) result
-        (Ok (gone_if (how_told how.now) kind (view json.now) (fault_text (refused why fault.now))))) }
+) -> Option<Event>
+    ensures { WhenWhole out.old out.new
+        (gone_if (how_told how.now) kind (view json.now) (fault_text (refused why fault.now))
+        ≡ as_told out.new.bytes.items result) }
 {
     out.bytes.clear();
     put_refused(out, why, fault);
@@ -121,7 +118,7 @@ fn node_told(
             }))
         }
         Err(ObjectFault::Refused(why, field)) => {
-            fault_told(out, why, field, json, Kind::Node, how)
+            Ok(fault_told(out, why, field, json, Kind::Node, how))
         }
         Err(ObjectFault::NoMemory) => Err(ObjectFault::NoMemory),
     }
@@ -144,7 +141,7 @@ fn waiting_told(
     if out.bytes.is_empty() {
         waiting_row(alloc, out, pod, how)
     } else {
-        gone_if(pod, Kind::Pod, how)
+        Ok(gone_if(pod, Kind::Pod, how))
     }
 }
 
@@ -170,7 +167,7 @@ fn waiting_row(
             }))
         }
         Err(ObjectFault::Refused(why, field)) => {
-            fault_told(out, why, field, json, Kind::Pod, how)
+            Ok(fault_told(out, why, field, json, Kind::Pod, how))
         }
         Err(ObjectFault::NoMemory) => Err(ObjectFault::NoMemory),
     }
@@ -227,7 +224,7 @@ fn bound_told(
         Ok(name) => placed_told(alloc, out, name, spec, pod, how),
         Err(_) => {
             put_left_out(out, "node ", node.as_bytes());
-            gone_if(pod, Kind::Pod, how)
+            Ok(gone_if(pod, Kind::Pod, how))
         }
     }
 }
@@ -303,7 +300,7 @@ fn pod_told(
         (Gives (as_told out.new.bytes.items) result (pod_told (how_told how.now) (view json.now))) }
 {
     if has_ended(json) {
-        return gone_if(json, Kind::Pod, how);
+        return Ok(gone_if(json, Kind::Pod, how));
     }
     let spec = part_of(json, "spec")?;
     let node = node_name(spec)?;
@@ -317,7 +314,7 @@ fn pod_told(
 // The name of the node on which a pod stands, which is empty where it stands on none.
 #[tactic(auto, unfolding(crate::specs::Told::node_name))]
 pub(crate) fn node_name(spec: &Value) -> Result<&str, ObjectFault>
-    ensures { Gives (λ name. name.now) result (node_name (view spec.now)) }
+    ensures { Tells (λ name. name.now) result (node_name (view spec.now)) }
 {
     if spec.as_object().is_none() {
         return Err(ObjectFault::Refused(Why::BadField, "spec"));
@@ -339,7 +336,7 @@ fn kind_told(
         (Gives (as_told out.new.bytes.items) result (kind_told (how_told how.now) kind (view json.now))) }
 {
     match how.change {
-        Change::Gone => gone_told(out, json, kind, how),
+        Change::Gone => Ok(gone_told(out, json, kind, how)),
         Change::There | Change::Changed => match kind {
             Kind::Node => node_told(alloc, out, json, how),
             Kind::Pod => pod_told(alloc, out, json, how),
@@ -392,7 +389,7 @@ fn has_node_shape(json: &Value) -> bool
 // The kind of an object that says none, by its shape.
 #[tactic(auto, unfolding(crate::specs::Told::kind_by_shape))]
 fn kind_by_shape(json: &Value) -> Result<Option<Kind>, ObjectFault>
-    ensures { Answers result (kind_by_shape (view json.now)) }
+    ensures { Tells (λ kind. kind) result (kind_by_shape (view json.now)) }
 {
     if has_pod_shape(json) {
         return Ok(Some(Kind::Pod));
@@ -406,7 +403,7 @@ fn kind_by_shape(json: &Value) -> Result<Option<Kind>, ObjectFault>
 // The kind of an object: a node, a pod or another.
 #[tactic(auto, unfolding(crate::specs::Told::kind_of))]
 pub(crate) fn kind_of(json: &Value) -> Result<Option<Kind>, ObjectFault>
-    ensures { Answers result (kind_of (view json.now)) }
+    ensures { Tells (λ kind. kind) result (kind_of (view json.now)) }
 {
     let Some(value) = field(json, "kind") else {
         return kind_by_shape(json);
