@@ -33,7 +33,7 @@ use Rattle.objects.specs.Reading.{field, within, part_of, text_at, text_or, name
 use Rattle.objects.specs.Amounts.{in_field, amount_of, offered, allocatable}
 use Rattle.objects.specs.Containers.{count}
 use Rattle.objects.specs.Sayable.{says_label, says_taint, says_toleration}
-use Rattle.objects.specs.Labels.{Kept, with_item, label_of, fitting, is_named, behind, told_labels, if_named, named_labels, unless_named, other_labels, all_labels, have_room, row_labels}
+use Rattle.objects.specs.Labels.{Kept, with_item, label_of, fitting, is_named, behind, is_first, if_first, first_labels, unless_named, other_labels, all_labels, have_room, row_labels}
 use Rattle.objects.specs.NodeRow.{taint_of, taints, node_parts, node_labels, node_row}
 use Rattle.objects.specs.PodRequest as reckoning
 use Rattle.objects.specs.PodRow.{full_name, pod_name, is_small, a_priority, priority_of, priority, text_if, with_parts, toleration_of, tolerations_of, pod_parts, pod_lists, pod_row}
@@ -115,22 +115,16 @@ behind_said : (before : List Label) (o : Option Label) → AreLabels before → 
 behind_said before (Some label) all fits = last_ok (before ++ label ∷ []) (one_more says_label MAX_LABELS before label all fits.is)
 behind_said before None all fits = no_ok (refused BadName (codes "labels"))
 
-told_said : (before : List Label) (found : Members) → AreLabels before → OkIs AreLabels (told_labels before found)
-told_said before no_members all = last_ok before all
-told_said before (member key value rest) all =
+if_first_said : (own : Option Site) (before : List Label) (key : List ℕ) (value : Data) → AreLabels before → OkIs AreLabels (if_first own before key value)
+unfolding if_first
+if_first_said own before key value all =
     let label = label_of before key value in
-    bind_with (behind before label) _ (behind_said before label all (label_fits before key value)) (λ more h. told_said more rest h)
+    either_is (is_first own key) (behind before label) (Ok before) (behind_said before label all (label_fits before key value)) (last_ok before all)
 
-if_named_said : (site : Site) (before : List Label) (key : List ℕ) (value : Data) → AreLabels before → OkIs AreLabels (if_named site before key value)
-unfolding if_named
-if_named_said site before key value all =
-    let label = label_of before key value in
-    either_is (is_named site.labels key && not (has site.beside key)) (behind before label) (Ok before) (behind_said before label all (label_fits before key value)) (last_ok before all)
-
-named_said : (site : Site) (before : List Label) (found : Members) → AreLabels before → OkIs AreLabels (named_labels site before found)
-named_said site before no_members all = last_ok before all
-named_said site before (member key value rest) all =
-    bind_with (if_named site before key value) _ (if_named_said site before key value all) (λ more h. named_said site more rest h)
+first_said : (own : Option Site) (before : List Label) (found : Members) → AreLabels before → OkIs AreLabels (first_labels own before found)
+first_said own before no_members all = last_ok before all
+first_said own before (member key value rest) all =
+    bind_with (if_first own before key value) _ (if_first_said own before key value all) (λ more h. first_said own more rest h)
 
 either_said : (b : Bool) (x y : Kept (List Label)) → AreLabels x.item → AreLabels y.item → AreLabels (cond b x y).item
 either_said true x y p q = p
@@ -153,8 +147,8 @@ unfolding row_labels
 labels_said site left found =
     bind_ok (members_of (codes "labels") site.beside) _ (λ beside.
     either_is (have_room beside found || nat_le 1 (length site.labels)) (all_labels site left beside found) (Err (refused TooMany (codes "labels")))
-    (bind_with (told_labels [] beside) _ (told_said [] beside no_labels) (λ told t.
-    bind_with (named_labels site told found) _ (named_said site told found t) (λ first f.
+    (bind_with (first_labels None [] beside) _ (first_said None [] beside no_labels) (λ told t.
+    bind_with (first_labels (Some site) told found) _ (first_said (Some site) told found t) (λ first f.
     last_ok _ (others_said site (record { item = first; left_out = left }) found f))))
     (no_ok (refused TooMany (codes "labels"))))
 

@@ -29,7 +29,7 @@ use Rattle.objects.specs.LeftOut.{shown, left_out, left_out_if, why_text, Fault,
 use Rattle.objects.specs.Reading.{said, field, within, part_of, members_of, items_of, absent_or, is_given, has, spelled}
 use Rattle.objects.specs.PodRequest.{fault_of, more_left_out, is_held_read, held_left_out}
 use Rattle.objects.specs.PodRequest as pods
-use Rattle.objects.specs.Labels.{Kept, with_item, label_of, is_named, told_labels, named_labels, unless_named, other_labels, have_room, all_labels, row_labels}
+use Rattle.objects.specs.Labels.{Kept, with_item, label_of, is_named, first_labels, unless_named, other_labels, have_room, all_labels, row_labels}
 use Rattle.objects.specs.NodeRow.{node_parts, node_labels, node_row}
 use Rattle.objects.specs.Demands.{each_item, array_gives, affinity, asks_spread, is_read_affinity, is_nothing, is_known, other_field, other_fields, fields_of, free, free_or_claimed, is_tied, volume, node_port, host_port, is_reckoned, other_resource, other_resources, object_gives, resources_of, container, containers, placement, demands, wishes}
 use Rattle.objects.specs.PodRow.{pod_parts, toleration_of, tolerations_of, pod_lists, pod_row}
@@ -277,8 +277,8 @@ unfolding row_labels
 labels_texts site left found h =
     bind_ok (members_of (codes "labels") site.beside) _ (λ beside.
     either_is (have_room beside found || nat_le 1 (length site.labels)) (all_labels site left beside found) (Err (refused TooMany (codes "labels")))
-    (bind_ok (told_labels [] beside) _ (λ told.
-    bind_ok (named_labels site told found) _ (λ first.
+    (bind_ok (first_labels None [] beside) _ (λ told.
+    bind_ok (first_labels (Some site) told found) _ (λ first.
     last_ok _ (other_labels_texts site (record { item = first; left_out = left }) found h))))
     (no_ok (refused TooMany (codes "labels"))))
 

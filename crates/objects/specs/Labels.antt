@@ -1,7 +1,7 @@
 -- The labels that a row has of an object: first those that are told beside its own, then of its own
 -- those that the site's rules read, then the others as far as there is room, each in the order of
 -- their keys. One of its own gives way to one that is told under its key.
-use Rattle.std.specs.Prelude.{ℕ, suc, ◌+◌, ◌==◌, Bool, not, ◌&&◌, ◌||◌, List, [], ◌∷◌, ◌++◌, length, nat_le, nat_lt, bytes_eq, codes, Option, Some, None, option_and_then, Result, Ok, Err, if◌then◌else◌}
+use Rattle.std.specs.Prelude.{ℕ, suc, ◌+◌, ◌==◌, Bool, true, not, ◌&&◌, ◌||◌, List, [], ◌∷◌, ◌++◌, length, nat_le, nat_lt, bytes_eq, codes, Option, Some, None, option_and_then, Result, Ok, Err, if◌then◌else◌}
 use Rattle.std.specs.List.{list_any, slice_split}
 use Rattle.serde_json.specs.Data.{Data, Members, no_members, member}
 use Rattle.serde_json.specs.Find.{as_str}
@@ -43,18 +43,18 @@ abbrev pub behind : List Label → Option Label → Result (List Label) Fault
 behind before None = Err (refused BadName (codes "labels"))
 behind before (Some label) = Ok (before ++ label ∷ [])
 
--- all of those that are told beside its own
-abbrev pub told_labels : List Label → Members → Result (List Label) Fault
-told_labels before no_members = Ok before
-told_labels before (member key value rest) = behind before (label_of before key value) >>= λ more. told_labels more rest
+-- whether a label is told first: each of those that are told beside an object's own, and of its own, as a site wants
+-- them, those that are named
+abbrev pub is_first : (own : Option Site) → (key : List ℕ) → Bool
+is_first None key = true
+is_first (Some site) key = is_named site.labels key && not (has site.beside key)
 
--- of its own those that are named
-unfoldable pub if_named : Site → List Label → (key : List ℕ) → Data → Result (List Label) Fault
-if_named site before key value = if is_named site.labels key && not (has site.beside key) then behind before (label_of before key value) else Ok before
+unfoldable pub if_first : (own : Option Site) → List Label → (key : List ℕ) → Data → Result (List Label) Fault
+if_first own before key value = if is_first own key then behind before (label_of before key value) else Ok before
 
-abbrev pub named_labels : Site → List Label → Members → Result (List Label) Fault
-named_labels site before no_members = Ok before
-named_labels site before (member key value rest) = if_named site before key value >>= λ more. named_labels site more rest
+abbrev pub first_labels : (own : Option Site) → List Label → Members → Result (List Label) Fault
+first_labels own before no_members = Ok before
+first_labels own before (member key value rest) = if_first own before key value >>= λ more. first_labels own more rest
 
 -- those that aren't named, behind others
 unfoldable pub unless_named : Site → Kept (List Label) → (key : List ℕ) → Data → Kept (List Label)
@@ -74,8 +74,8 @@ count_members (member key value rest) = suc (count_members rest)
 -- knows which of them count: there is no row then
 abbrev pub all_labels : Site → (left : List ℕ) → (beside found : Members) → Result (Kept (List Label)) Fault
 all_labels site left beside found = do
-  told ← told_labels [] beside
-  first ← named_labels site told found
+  told ← first_labels None [] beside
+  first ← first_labels (Some site) told found
   Ok (other_labels site (record { item = first; left_out = left }) found)
 
 abbrev pub have_room : (beside found : Members) → Bool

@@ -3,7 +3,7 @@ ghost use Rattle.std.specs.Prelude.{◌≡◌, ◌+◌, ◌<◌, codes, [], leng
 ghost use Rattle.std.specs.List.{list_any, slice_split};
 ghost use Rattle.serde_json.specs.View.{view, members_view};
 ghost use Rattle.quant.specs.declared.limits.TheConstants.{MAX_LABELS};
-ghost use Rattle.objects.specs.Labels.{fitting, label_of, behind, count_members, is_comma, is_named, told_labels, if_named, named_labels, with_item, unless_named, other_labels, all_labels, row_labels};
+ghost use Rattle.objects.specs.Labels.{fitting, label_of, behind, count_members, is_comma, is_named, is_first, if_first, first_labels, with_item, unless_named, other_labels, all_labels, row_labels};
 ghost use Rattle.objects.specs.Site.{site_of};
 ghost use Rattle.objects.specs.inside.Answers.{Gives};
 ghost use Rattle.objects.specs.inside.Members.{members_or_none, kept};
@@ -74,24 +74,11 @@ fn take_all(
         (members_or_none (option_map (λ m. members_view m.now.entries) found.entry)))) }
 {
     if let Some(members) = beside {
-        take_told(labels, members)?;
+        take_first(labels, members, None)?;
     }
     if let Some(members) = found {
-        take_named(labels, members, site)?;
+        take_first(labels, members, Some(site))?;
         take_others(labels, out, members, site);
-    }
-    Ok(())
-}
-
-// Takes the labels that are told beside an object's own, behind others.
-fn take_told(
-    labels: &mut AtMost<Label, MAX_LABELS>,
-    members: &Map<String, Value>,
-) -> Result<(), ObjectFault>
-    ensures { Gives (λ _. labels.new) result (told_labels labels.old (members_view members.now.entries)) }
-{
-    for (key, value) in members.iter() {
-        take_behind(labels, key.as_str(), value)?;
     }
     Ok(())
 }
@@ -114,36 +101,47 @@ fn take_behind(
     }
 }
 
-// Takes of an object's own labels those that are named, behind others.
-fn take_named(
+// Takes those labels behind others that are told first: each of them, or of an object's own those
+// that the site's rules read.
+fn take_first(
     labels: &mut AtMost<Label, MAX_LABELS>,
     members: &Map<String, Value>,
-    site: &Site<'_>,
+    own: Option<&Site<'_>>,
 ) -> Result<(), ObjectFault>
     ensures { Gives (λ _. labels.new) result
-        (named_labels (site_of site.now) labels.old (members_view members.now.entries)) }
+        (first_labels (option_map (λ s. site_of s.now) own.entry) labels.old (members_view members.now.entries)) }
 {
     for (key, value) in members.iter() {
-        take_if_named(labels, key.as_str(), value, site)?;
+        take_if_first(labels, key.as_str(), value, own)?;
     }
     Ok(())
 }
 
-// Takes a label behind others, where it is named.
-#[tactic(auto, unfolding(crate::specs::Labels::if_named))]
-fn take_if_named(
+// Takes a label behind others, where it is told first.
+#[tactic(auto, unfolding(crate::specs::Labels::if_first))]
+fn take_if_first(
     labels: &mut AtMost<Label, MAX_LABELS>,
     key: &str,
     value: &Value,
-    site: &Site<'_>,
+    own: Option<&Site<'_>>,
 ) -> Result<(), ObjectFault>
     ensures { Gives (λ _. labels.new) result
-        (if_named (site_of site.now) labels.old key.now (view value.now)) }
+        (if_first (option_map (λ s. site_of s.now) own.entry) labels.old key.now (view value.now)) }
 {
-    if is_named(site.labels, key) && !has(site.beside, key) {
+    if is_first(own, key) {
         take_behind(labels, key, value)
     } else {
         Ok(())
+    }
+}
+
+// Whether a label is told first.
+fn is_first(own: Option<&Site<'_>>, key: &str) -> bool
+    ensures { result ≡ is_first (option_map (λ s. site_of s.now) own.entry) key.now }
+{
+    match own {
+        Some(site) => is_named(site.labels, key) && !has(site.beside, key),
+        None => true,
     }
 }
 

@@ -281,10 +281,7 @@ pub(crate) fn has_ended(json: &Value) -> bool
     let Some(phase) = within(json, "status", "phase") else {
         return false;
     };
-    match phase.as_str() {
-        Some(phase) => phase == "Succeeded" || phase == "Failed",
-        None => false,
-    }
+    matches!(phase.as_str(), Some("Succeeded" | "Failed"))
 }
 
 // What is told of a pod that is there.
