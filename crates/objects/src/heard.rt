@@ -5,15 +5,13 @@ ghost use Rattle.quant.specs.Amount.{is_digit, number};
 ghost use Rattle.serde_json.specs.View.{view};
 ghost use Rattle.objects.specs.Heard.{a_version, version_in, shows_none, uid_in, has_no_node, is_waiting, is_row, hears, heard_by, heard_of, hearing, heard, names_of, value_in, IsValue, none_heard};
 ghost use Rattle.objects.specs.LeftOut.{fault_text, refused};
-ghost use Rattle.objects.specs.declared.heard.Heard.TheVariants as heard_as;
-ghost use Rattle.objects.specs.declared.heard.NoValue.TheVariants as no_values;
 ghost use Rattle.objects.specs.Told.{object_in};
 ghost use Rattle.objects.specs.inside.Answers.{Answers, Gives};
 ghost use Rattle.objects.specs.Site.{site_of};
 
 use crate::change::Kind;
 use crate::fault::{ObjectFault, Why};
-use crate::left_out::{Names, put_left_out, put_refused, told_names};
+use crate::left_out::{Names, put_refused, told_names};
 use crate::reading::{field, name_at, part_of, spelled, text_at};
 use crate::site::Site;
 use crate::told::{has_ended, is_blank, kind_of, node_name, object_in, parse, value_told};
@@ -83,7 +81,7 @@ pub fn hear(alloc: Global, json: &Value, site: &Site<'_>) -> Result<Hearing, All
     match heard_of(alloc, &mut left_out, json, site) {
         Ok(heard) => with_names(alloc, heard, &left_out),
         Err(ObjectFault::NoMemory) => Err(AllocError),
-        Err(ObjectFault::Refused(why, field)) => unread(alloc, why, field),
+        Err(ObjectFault::Refused(why, field)) => with_fault(alloc, Heard::Unread, why, field),
     }
 }
 
@@ -97,40 +95,36 @@ fn with_names(alloc: Global, heard: Heard, names: &Names) -> Result<Hearing, All
     Ok(Hearing { heard, left_out })
 }
 
-// What is heard of what has this fault.
-fn unread(alloc: Global, why: Why, field: &'static str) -> Result<Hearing, AllocError>
-    ensures heard { IfOk result (λ found. found.heard ≡ heard_as.Unread) }
+// What is heard, beside the name of a fault.
+fn with_fault(
+    alloc: Global,
+    heard: Heard,
+    why: Why,
+    field: &'static str,
+) -> Result<Hearing, AllocError>
+    ensures heard { IfOk result (λ found. found.heard ≡ heard) }
     ensures left_out { IfOk result (λ found. found.left_out.items
-        ≡ names_of (hears heard_as.Unread (fault_text (refused why field.now)))) }
+        ≡ names_of (hears heard (fault_text (refused why field.now)))) }
 {
     let mut names = Names::new(alloc);
     put_refused(&mut names, why, field);
-    with_names(alloc, Heard::Unread, &names)
+    with_names(alloc, heard, &names)
 }
 
 /// What is heard of a line without a value: a blank one tells nothing, and another may be a pod on
 /// a node.
 ///
 /// Errors: `AllocError`, which may come in place of any answer.
+#[tactic(auto, unfolding(crate::specs::LeftOut::fault_text))]
 pub fn hear_none(alloc: Global, why: NoValue) -> Result<Hearing, AllocError>
     ensures heard { IfOk result (λ found. found.heard ≡ (none_heard why).heard) }
     ensures left_out { IfOk result (λ found. found.left_out.items ≡ names_of (none_heard why)) }
 {
     match why {
-        NoValue::LongLine => unread(alloc, Why::LongLine, ""),
-        NoValue::Blank => blank(alloc),
-        NoValue::NotJson => unread(alloc, Why::NotJson, ""),
+        NoValue::LongLine => with_fault(alloc, Heard::Unread, Why::LongLine, ""),
+        NoValue::Blank => with_fault(alloc, Heard::Nothing, Why::NotJson, ""),
+        NoValue::NotJson => with_fault(alloc, Heard::Unread, Why::NotJson, ""),
     }
-}
-
-// What is heard of a blank line.
-fn blank(alloc: Global) -> Result<Hearing, AllocError>
-    ensures heard { IfOk result (λ found. found.heard ≡ heard_as.Nothing) }
-    ensures left_out { IfOk result (λ found. found.left_out.items ≡ names_of (none_heard no_values.Blank)) }
-{
-    let mut names = Names::new(alloc);
-    put_left_out(&mut names, "no JSON", b"");
-    with_names(alloc, Heard::Nothing, &names)
 }
 
 /// The JSON value of a line, or why it has none.

@@ -151,19 +151,20 @@ pub(crate) fn told_names(alloc: Global, names: &Names) -> Result<Vec<u8>, AllocE
     let bytes = names.bytes.as_slice();
     let end = end_of_first(bytes);
     let mut told = Names {
-        bytes: without_comma(alloc, &bytes[..end])?,
+        bytes: Vec::new(alloc),
         is_whole: names.is_whole,
     };
+    told.put(without_comma(&bytes[..end]));
     put_left_out_if(&mut told, end < bytes.len(), "others");
     told.into_bytes()
 }
 
 // Items of an array, without the comma and the space in front of the first.
-fn without_comma(alloc: Global, items: &[u8]) -> Result<Vec<u8>, AllocError>
-    ensures { IfOk result (λ rest. rest.items ≡ drop 2 items.now) }
+fn without_comma(items: &[u8]) -> &[u8]
+    ensures { result.now ≡ drop 2 items.now }
 {
     match items {
-        [_, _, rest @ ..] => Vec::from_slice(alloc, rest),
-        _ => Ok(Vec::new(alloc)),
+        [_, _, rest @ ..] => rest,
+        _ => &[],
     }
 }
