@@ -1,7 +1,6 @@
 -- What is told of an object in place of a row.
-use Rattle.std.proofs.Common.{◌≡◌, ℕ, List, [], ◌∷◌, Option, Result, Ok, Err, refl, sym, ap}
+use Rattle.std.proofs.Common.{◌≡◌, ℕ, List, [], ◌∷◌, Result, Ok, Err, refl, sym, ap}
 use Rattle.serde_json.specs.Data.{Data}
-use Rattle.quant.specs.declared.event.Event.{Event}
 use Rattle.objects.specs.declared.change.Kind.TheVariants as kinds
 use Rattle.objects.specs.declared.fault.ObjectFault.{ObjectFault}
 use Rattle.objects.specs.declared.fault.ObjectFault.TheVariants.{Refused, NoMemory}
@@ -10,7 +9,6 @@ use Rattle.objects.specs.Quantity.{◌>>=◌}
 use Rattle.objects.specs.Site.{Telling}
 use Rattle.objects.specs.Told.{gone_if, kept_back, waiting_told}
 use Rattle.objects.specs.inside.Answers.{Fails, Gives, Answers}
-use Rattle.objects.specs.inside.Telling.{as_told}
 
 -- what keeps a pod back that waits
 pub held_back : (how : Telling) (spec pod : Data) (out : List ℕ) → ¬ (out ≡ []) → out ≡ kept_back how.site spec pod

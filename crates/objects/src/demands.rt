@@ -1,5 +1,5 @@
 //! What a pod asks for that no row tells: what it must have, and what it only wishes.
-ghost use Rattle.std.specs.Prelude.{◌≡◌, ◌++◌, ◌&&◌, ℕ, not, List, [], map, codes, None, option_map, if◌then◌else◌};
+ghost use Rattle.std.specs.Prelude.{◌≡◌, ◌++◌, ◌&&◌, ℕ, not, List, [], map, codes, option_map, if◌then◌else◌};
 ghost use Rattle.serde_json.specs.Data.{Data};
 ghost use Rattle.serde_json.specs.Find.{as_object};
 ghost use Rattle.serde_json.specs.View.{view, items_view, members_view};
@@ -447,7 +447,7 @@ fn put_resource(out: &mut Names, key: &str, value: &Value, others: Option<&Value
     ensures { Puts out.old out.new
         (other_resource (has (option_map (λ v. view v.now) others.entry)) key.now (view value.now)) }
 {
-    if key == "cpu" || key == "memory" || has(others, key) || is_nothing(value) {
+    if matches!(key, "cpu" | "memory") || has(others, key) || is_nothing(value) {
         return;
     }
     put_left_out(out, "resource ", key.as_bytes())

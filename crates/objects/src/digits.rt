@@ -1,9 +1,9 @@
 //! The digits of a quantity, and the sign and the point beside them.
 ghost use Rattle.std.specs.Prelude.{◌≡◌, ℕ, ◌+◌, ◌*◌, ◌-◌, ◌^◌, ◌<◌, ◌≤◌, ◌++◌, length, min, IsTrue};
-ghost use Rattle.std.specs.List.{list_all, prefix_len};
+ghost use Rattle.std.specs.List.{list_all};
 ghost use Rattle.quant.specs.Amount.{is_digit, number};
 ghost use Rattle.objects.specs.Ratio.{rounded};
-ghost use Rattle.objects.specs.Suffix.{has_minus, after_sign, is_0, behind_zeros};
+ghost use Rattle.objects.specs.Suffix.{has_minus, after_sign, behind_zeros};
 ghost use Rattle.objects.specs.Quantity.{fraction_digits, after_fraction, is_zero};
 ghost use Rattle.objects.specs.inside.Digits.{digit, front, back};
 
@@ -55,15 +55,11 @@ pub(crate) fn behind_zeros(digits: &[u8]) -> &[u8]
     ensures digits { result.now ≡ behind_zeros digits.now }
     ensures pass { IsTrue (list_all is_digit result.now) }
 {
-    let (_, rest) = digits.split_at(count_zeros(digits));
+    let mut rest = digits;
+    while let [b'0', more @ ..] = rest {
+        rest = more;
+    }
     rest
-}
-
-// How many zeros a text begins with.
-fn count_zeros(text: &[u8]) -> usize
-    ensures { result ≡ prefix_len is_0 text.now }
-{
-    text.iter().take_while(|b| **b == b'0').count()
 }
 
 // The number that up to two digits spell.

@@ -1,5 +1,5 @@
 //! What an object of the API, or an event of its watch, gives a script.
-ghost use Rattle.std.specs.Prelude.{◌≡◌, [], codes, List, ℕ, Result, Some, None, Ok, Err, is_some, IfOk, option_and_then, option_map, if◌then◌else◌};
+ghost use Rattle.std.specs.Prelude.{◌≡◌, [], codes, Result, Some, None, Ok, Err, is_some, IfOk, option_and_then, option_map, if◌then◌else◌};
 ghost use Rattle.serde_json.specs.View.{view};
 ghost use Rattle.serde_json.specs.Find.{as_array, as_object, as_str};
 ghost use Rattle.objects.specs.declared.change.Kind.TheVariants as kinds;
