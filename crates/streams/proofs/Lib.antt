@@ -1,4 +1,5 @@
 pub mod Asked
+pub mod Built
 pub mod Greatest
 pub mod Known
 pub mod Pieces

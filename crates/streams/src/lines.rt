@@ -149,7 +149,9 @@ impl LineReader {
         if !self.is_empty() {
             return Ok(true);
         }
-        self.fill(source, waits).map_err(|_| RunFault::Read)?;
+        let Ok(()) = self.fill(source, waits) else {
+            return Err(RunFault::Read);
+        };
         Ok(!self.is_empty())
     }
 
