@@ -1,70 +1,53 @@
 //! The texts that answer lines.
-ghost use Rattle.std.specs.Prelude.{◌≡◌, ◌++◌, [], IfOk, OnOk, codes, decimal, length, map};
+ghost use Rattle.std.specs.Prelude.{◌≡◌, ◌++◌, [], IfOk, codes, length, map};
 ghost use Rattle.desk.specs.Shown.{shown};
+ghost use Rattle.streams.specs.TextBuilder.{Adds};
 ghost use Rattle.output_lines.specs.Text.{cycle_line};
 ghost use Rattle.live_desk.specs.declared.turn.Turn.TheVariants as turns;
 ghost use Rattle.live.specs.Answer.{answer_text, aside_text, dump_text, explained_text, faulty_text, is_told, is_withheld, nothing_text, taken_text, taken_word, tick_text, told_word, turn_text, word};
 
 use choose::Verdict;
 use cycle::Cycled;
-use desk::{Reply, Row, Snapshot};
-use itoa::Buffer;
+use desk::{NoMemory, Reply, Row, Snapshot};
 use ledger::{Answer, Event};
 use live_desk::{Taken, Turn};
 use live_lines::Field;
 use output_lines::{NamedRule, push_cycled, push_judged, push_reply, push_snapshot, push_verdicts};
 use quant::{Name, Pod};
-use std::alloc::{AllocError, Global};
-
-// Adds a number in decimal behind a word.
-fn push_number(text: &mut Vec<u8>, word: &[u8], number: u64) -> Result<(), AllocError>
-    ensures { OnOk result (text.new.items ≡ text.old.items ++ word.now ++ decimal number) }
-{
-    let mut digits = Buffer::new();
-    text.extend_from_slice(word)?;
-    text.extend_from_slice(digits.format(number).as_bytes())
-}
+use std::alloc::Global;
+use streams::TextBuilder;
 
 // Adds the word by which the ledger answers.
 #[tactic(auto, unfolding(crate::specs::Answer::word))]
-fn push_word(text: &mut Vec<u8>, answer: Answer) -> Result<(), AllocError>
-    ensures { OnOk result (text.new.items ≡ text.old.items ++ word answer) }
+fn push_word(text: &mut TextBuilder, answer: Answer)
+    ensures { Adds text.old text.new (word answer) }
 {
     match answer {
-        Answer::Granted(ticket) => push_number(text, b"granted ", ticket.0),
+        Answer::Granted(ticket) => text.put_number(b"granted ", ticket.0),
         Answer::Refused(why) => {
-            push_number(text, b"refused ", u64::from(why.number()))?;
-            text.extend_from_slice(b" ")?;
-            text.extend_from_slice(why.name().as_bytes())
+            text.put_number(b"refused ", u64::from(why.number()));
+            text.put_two(b" ", why.name().as_bytes());
         }
-        Answer::Told => text.extend_from_slice(b"told"),
-        Answer::Old => text.extend_from_slice(b"old"),
-        Answer::Full => text.extend_from_slice(b"full"),
-        Answer::Shut => text.extend_from_slice(b"shut"),
-        Answer::NotWaiting => text.extend_from_slice(b"not-waiting"),
-        Answer::Read => text.extend_from_slice(b"read"),
+        Answer::Told => text.put(b"told"),
+        Answer::Old => text.put(b"old"),
+        Answer::Full => text.put(b"full"),
+        Answer::Shut => text.put(b"shut"),
+        Answer::NotWaiting => text.put(b"not-waiting"),
+        Answer::Read => text.put(b"read"),
     }
 }
 
 /// How an answer of the ledger is spelled.
 ///
-/// Errors: `AllocError`, which may come in place of any answer.
+/// Errors: `NoMemory`, which may come in place of any answer.
 #[tactic(auto, unfolding(crate::specs::Answer::answer_text))]
-pub(crate) fn answer_text(alloc: Global, answer: Answer) -> Result<Vec<u8>, AllocError>
+pub(crate) fn answer_text(alloc: Global, answer: Answer) -> Result<Vec<u8>, NoMemory>
     ensures { IfOk result (λ text. text.items ≡ answer_text answer) }
 {
-    let mut text = Vec::new(alloc);
-    push_word(&mut text, answer)?;
-    text.extend_from_slice(b"\n")?;
-    Ok(text)
-}
-
-// Ends an answer: what of its object isn't told, and the newline.
-fn end(text: &mut Vec<u8>, reasons: &[u8]) -> Result<(), AllocError>
-    ensures { OnOk result (text.new.items ≡ text.old.items ++ reasons.now ++ codes "\n") }
-{
-    text.extend_from_slice(reasons)?;
-    text.extend_from_slice(b"\n")
+    let mut text = TextBuilder::new(alloc);
+    push_word(&mut text, answer);
+    text.put(b"\n");
+    text.build()
 }
 
 /// Whether an event is that a pod isn't to be placed.
@@ -82,85 +65,84 @@ fn is_told(answer: Answer) -> bool
 }
 
 // Adds the word that answers an event.
-fn push_told(text: &mut Vec<u8>, is_withheld: bool, answer: Answer) -> Result<(), AllocError>
-    ensures { OnOk result (text.new.items ≡ text.old.items ++ told_word is_withheld answer) }
+fn push_told(text: &mut TextBuilder, is_withheld: bool, answer: Answer)
+    ensures { Adds text.old text.new (told_word is_withheld answer) }
 {
     if is_withheld && is_told(answer) {
-        text.extend_from_slice(b"withheld")
+        text.put(b"withheld");
     } else {
-        push_word(text, answer)
+        push_word(text, answer);
     }
 }
 
 /// What is answered to an event, of whose object this isn't told.
 ///
-/// Errors: `AllocError`, which may come in place of any answer.
+/// Errors: `NoMemory`, which may come in place of any answer.
 pub(crate) fn told_text(
     alloc: Global,
     is_withheld: bool,
     answer: Answer,
     reasons: &[u8],
-) -> Result<Vec<u8>, AllocError>
+) -> Result<Vec<u8>, NoMemory>
     ensures { IfOk result (λ text. text.items ≡ told_word is_withheld answer ++ reasons.now ++ codes "\n") }
 {
-    let mut text = Vec::new(alloc);
-    push_told(&mut text, is_withheld, answer)?;
-    end(&mut text, reasons)?;
-    Ok(text)
+    let mut text = TextBuilder::new(alloc);
+    push_told(&mut text, is_withheld, answer);
+    text.put_two(reasons, b"\n");
+    text.build()
 }
 
 /// What is answered to an order with a fault in this field.
 ///
-/// Errors: `AllocError`, which may come in place of any answer.
+/// Errors: `NoMemory`, which may come in place of any answer.
 #[tactic(auto, unfolding(crate::specs::Answer::faulty_text))]
-pub(crate) fn faulty_text(alloc: Global, field: Field) -> Result<Vec<u8>, AllocError>
+pub(crate) fn faulty_text(alloc: Global, field: Field) -> Result<Vec<u8>, NoMemory>
     ensures { IfOk result (λ text. text.items ≡ faulty_text field) }
 {
-    let mut text = Vec::new(alloc);
-    text.extend_from_slice(b"faulty ")?;
-    text.extend_from_slice(field.key().as_bytes())?;
-    text.extend_from_slice(b"\n")?;
-    Ok(text)
+    let mut text = TextBuilder::new(alloc);
+    text.put_two(b"faulty ", field.key().as_bytes());
+    text.put(b"\n");
+    text.build()
 }
 
 /// What is answered to what tells nothing.
 ///
-/// Errors: `AllocError`, which may come in place of any answer.
-pub(crate) fn nothing_text(alloc: Global, reasons: &[u8]) -> Result<Vec<u8>, AllocError>
+/// Errors: `NoMemory`, which may come in place of any answer.
+pub(crate) fn nothing_text(alloc: Global, reasons: &[u8]) -> Result<Vec<u8>, NoMemory>
     ensures { IfOk result (λ text. text.items ≡ nothing_text reasons.now) }
 {
-    let mut text = Vec::new(alloc);
-    text.extend_from_slice(b"nothing")?;
-    end(&mut text, reasons)?;
-    Ok(text)
+    let mut text = TextBuilder::new(alloc);
+    text.put(b"nothing");
+    text.put_two(reasons, b"\n");
+    text.build()
 }
 
 // Adds the word that answers a pod that waits.
-fn push_taken(text: &mut Vec<u8>, taken: Taken) -> Result<(), AllocError>
-    ensures { OnOk result (text.new.items ≡ text.old.items ++ taken_word taken) }
+fn push_taken(text: &mut TextBuilder, taken: Taken)
+    ensures { Adds text.old text.new (taken_word taken) }
 {
     match taken {
         Taken::Answers(answer) => push_word(text, answer),
-        Taken::LeftOut => text.extend_from_slice(b"left-out"),
+        Taken::LeftOut => text.put(b"left-out"),
     }
 }
 
 /// What is answered of a pod that waits, of whose object this isn't told.
 ///
-/// Errors: `AllocError`, which may come in place of any answer.
-pub(crate) fn taken_text(alloc: Global, taken: Taken, reasons: &[u8]) -> Result<Vec<u8>, AllocError>
+/// Errors: `NoMemory`, which may come in place of any answer.
+pub(crate) fn taken_text(alloc: Global, taken: Taken, reasons: &[u8]) -> Result<Vec<u8>, NoMemory>
     ensures { IfOk result (λ text. text.items ≡ taken_text taken reasons.now) }
 {
-    let mut text = Vec::new(alloc);
-    push_taken(&mut text, taken)?;
-    end(&mut text, reasons)?;
-    Ok(text)
+    let mut text = TextBuilder::new(alloc);
+    push_taken(&mut text, taken);
+    text.put_two(reasons, b"\n");
+    text.build()
 }
 
 /// What is answered of a pod that is put aside.
 ///
-/// Errors: `AllocError`, which may come in place of any answer.
-pub(crate) fn aside_text(alloc: Global, was_there: bool) -> Result<Vec<u8>, AllocError>
+/// Errors: `NoMemory`, which may come in place of any answer.
+pub(crate) fn aside_text(alloc: Global, was_there: bool) -> Result<Vec<u8>, NoMemory>
     ensures { IfOk result (λ text. text.items ≡ aside_text was_there) }
 {
     let answer = if was_there { Answer::Told } else { Answer::Old };
@@ -169,8 +151,8 @@ pub(crate) fn aside_text(alloc: Global, was_there: bool) -> Result<Vec<u8>, Allo
 
 /// What is answered to a moment.
 ///
-/// Errors: `AllocError`, which may come in place of any answer.
-pub(crate) fn tick_text(alloc: Global, reply: Reply) -> Result<Vec<u8>, AllocError>
+/// Errors: `NoMemory`, which may come in place of any answer.
+pub(crate) fn tick_text(alloc: Global, reply: Reply) -> Result<Vec<u8>, NoMemory>
     ensures { IfOk result (λ text. text.items ≡ tick_text reply) }
 {
     match reply {
@@ -183,13 +165,9 @@ pub(crate) fn tick_text(alloc: Global, reply: Reply) -> Result<Vec<u8>, AllocErr
 
 /// What is answered to a cycle, where the rules have these names in their order.
 ///
-/// Errors: `AllocError`, which may come in place of any answer.
+/// Errors: `NoMemory`, which may come in place of any answer.
 #[tactic(auto, unfolding(crate::specs::Answer::turn_text))]
-pub(crate) fn turn_text(
-    alloc: Global,
-    named: &[NamedRule],
-    turn: Turn,
-) -> Result<Vec<u8>, AllocError>
+pub(crate) fn turn_text(alloc: Global, named: &[NamedRule], turn: Turn) -> Result<Vec<u8>, NoMemory>
     ensures { IfOk result (λ text. text.items ≡ turn_text named.now turn) }
 {
     match turn {
@@ -215,38 +193,31 @@ pub(crate) fn turn_text(
 }
 
 // The line of a cycle.
-fn cycled_text(alloc: Global, named: &[NamedRule], came: &Cycled) -> Result<Vec<u8>, AllocError>
+fn cycled_text(alloc: Global, named: &[NamedRule], came: &Cycled) -> Result<Vec<u8>, NoMemory>
     ensures { IfOk result (λ text. text.items ≡ cycle_line named.now came.now) }
 {
-    let mut text = Vec::new(alloc);
-    push_cycled(&mut text, named, came)?;
-    Ok(text)
+    let mut text = TextBuilder::new(alloc);
+    push_cycled(&mut text, named, came);
+    text.build()
 }
 
 // That the ledger doesn't allow a bind.
 #[tactic(auto, unfolding(crate::specs::Answer::turn_text, crate::specs::Answer::answer_text))]
-fn denied_text(
-    alloc: Global,
-    uid: &Name,
-    node: &Name,
-    answer: Answer,
-) -> Result<Vec<u8>, AllocError>
+fn denied_text(alloc: Global, uid: &Name, node: &Name, answer: Answer) -> Result<Vec<u8>, NoMemory>
     ensures { IfOk result (λ text. text.items ≡ turn_text [] (turns.Denied uid.now node.now answer)) }
 {
-    let mut text = Vec::new(alloc);
-    text.extend_from_slice(b"denied ")?;
-    text.extend_from_slice(uid.as_bytes())?;
-    text.extend_from_slice(b" on ")?;
-    text.extend_from_slice(node.as_bytes())?;
-    text.extend_from_slice(b" ")?;
-    push_word(&mut text, answer)?;
-    text.extend_from_slice(b"\n")?;
-    Ok(text)
+    let mut text = TextBuilder::new(alloc);
+    text.put_two(b"denied ", uid.as_bytes());
+    text.put_two(b" on ", node.as_bytes());
+    text.put(b" ");
+    push_word(&mut text, answer);
+    text.put(b"\n");
+    text.build()
 }
 
 /// What is told of each node for a pod to place, with these verdicts on the nodes.
 ///
-/// Errors: `AllocError`, which may come in place of any answer.
+/// Errors: `NoMemory`, which may come in place of any answer.
 pub(crate) fn explained_text(
     alloc: Global,
     named: &[NamedRule],
@@ -254,29 +225,25 @@ pub(crate) fn explained_text(
     uid: &Name,
     rows: &[Row],
     verdicts: &[Verdict],
-) -> Result<Vec<u8>, AllocError>
+) -> Result<Vec<u8>, NoMemory>
     requires { length verdicts.now ≡ length rows.now }
     ensures { IfOk result (λ text. text.items
         ≡ explained_text named.now pod.now uid.now (map shown rows.now) verdicts.now) }
 {
-    let mut text = Vec::new(alloc);
-    push_verdicts(&mut text, named, pod, rows, verdicts)?;
-    push_judged(&mut text, uid, verdicts.len() as u64)?;
-    Ok(text)
+    let mut text = TextBuilder::new(alloc);
+    push_verdicts(&mut text, named, pod, rows, verdicts);
+    push_judged(&mut text, uid, verdicts.len() as u64);
+    text.build()
 }
 
 /// The nodes that are shown, and the numbers of the desk.
 ///
-/// Errors: `AllocError`, which may come in place of any answer.
-pub(crate) fn dump_text(
-    alloc: Global,
-    nodes: &Snapshot,
-    reply: Reply,
-) -> Result<Vec<u8>, AllocError>
+/// Errors: `NoMemory`, which may come in place of any answer.
+pub(crate) fn dump_text(alloc: Global, nodes: &Snapshot, reply: Reply) -> Result<Vec<u8>, NoMemory>
     ensures { IfOk result (λ text. text.items ≡ dump_text nodes.now reply) }
 {
-    let mut text = Vec::new(alloc);
-    push_snapshot(&mut text, nodes)?;
-    push_reply(&mut text, reply)?;
-    Ok(text)
+    let mut text = TextBuilder::new(alloc);
+    push_snapshot(&mut text, nodes);
+    push_reply(&mut text, reply);
+    text.build()
 }

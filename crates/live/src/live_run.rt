@@ -21,7 +21,7 @@ use crate::answer_text::{
     taken_text, tick_text, told_text, turn_text,
 };
 use choose::Decider;
-use desk::{Blank, Limits, Naming};
+use desk::{Blank, Limits, Naming, NoMemory};
 use fault_line::{Fault, report};
 use ledger::Answer;
 use live_desk::LiveDesk;
@@ -29,7 +29,7 @@ use live_lines::{Meaning, Meant, meaning_of};
 use objects::{MAX_OBJECT, Site};
 use output_lines::NamedRule;
 use quant::{Name, SharedPod};
-use std::alloc::{AllocError, Global};
+use std::alloc::Global;
 use std::hash::RandomState;
 use std::marker::Brand;
 use std::sync::Wait;
@@ -240,12 +240,11 @@ fn answer_to<J: Naming, T: Wait + Threads + Sync, D: Decider>(
     decider: &mut D,
     live: &mut LiveDesk<J>,
     line: &[u8],
-) -> Result<Vec<u8>, RunFault>
+) -> Result<Vec<u8>, NoMemory>
     ensures answered { IfOk result (λ text. IsAnswered
         (manner (site_of site.now) (rules_of D.Kit.answers (D.kits decider.old)) named.now)
         (meaning (site_of site.now) line.now) (reasons (site_of site.now) line.now) live.old text.items live.new) }
     ensures kits { D.kits decider.new ≡ D.kits decider.old }
-    ensures refused { IfErr result (λ fault. fault ≡ run_fault.NoMemory) }
 {
     let Meant { meaning, reasons } = meaning_of(alloc, line, site)?;
     answer_meant(rt, alloc, site, named, decider, live, meaning, &reasons)
@@ -262,49 +261,43 @@ fn answer_meant<J: Naming, T: Wait + Threads + Sync, D: Decider>(
     live: &mut LiveDesk<J>,
     meaning: Meaning,
     reasons: &[u8],
-) -> Result<Vec<u8>, RunFault>
+) -> Result<Vec<u8>, NoMemory>
     requires { IsTimely meaning }
     ensures answered { IfOk result (λ text. IsAnswered
         (manner (site_of site.now) (rules_of D.Kit.answers (D.kits decider.old)) named.now)
         meaning reasons.now live.old text.items live.new) }
     ensures kits { D.kits decider.new ≡ D.kits decider.old }
-    ensures refused { IfErr result (λ fault. fault ≡ run_fault.NoMemory) }
 {
     match meaning {
         Meaning::Tells(event) => {
             let is_withheld = is_withheld(&event);
             let answer = live.tell(rt, alloc, event)?;
-            spelled(told_text(alloc, is_withheld, answer, reasons))
+            told_text(alloc, is_withheld, answer, reasons)
         }
         Meaning::Pending(version, pod) => {
             let taken = live.pending(rt, version, pod)?;
-            spelled(taken_text(alloc, taken, reasons))
+            taken_text(alloc, taken, reasons)
         }
         Meaning::Aside(uid) => {
             let was_there = live.put_aside(rt, uid)?;
-            spelled(aside_text(alloc, was_there))
+            aside_text(alloc, was_there)
         }
         Meaning::Tick(now) => {
             let reply = live.tick(rt, now)?;
-            spelled(tick_text(alloc, reply))
+            tick_text(alloc, reply)
         }
         Meaning::Cycle => {
-            let turn = live.cycle(rt, decider)?;
-            spelled(turn_text(alloc, named, turn))
+            // It ends early for want of memory alone.
+            let Ok(turn) = live.cycle(rt, decider) else {
+                return Err(NoMemory);
+            };
+            turn_text(alloc, named, turn)
         }
         Meaning::Explain(uid) => explain(rt, alloc, named, decider, live, &uid),
         Meaning::Dump => dump(rt, alloc, live),
-        Meaning::Nothing => spelled(nothing_text(alloc, reasons)),
-        Meaning::Faulty(field) => spelled(faulty_text(alloc, field)),
+        Meaning::Nothing => nothing_text(alloc, reasons),
+        Meaning::Faulty(field) => faulty_text(alloc, field),
     }
-}
-
-// A text, where there was memory for it.
-fn spelled(text: Result<Vec<u8>, AllocError>) -> Result<Vec<u8>, RunFault>
-    ensures text { IfOk result (λ it. text ≡ Ok it) }
-    ensures refused { IfErr result (λ fault. fault ≡ run_fault.NoMemory) }
-{
-    Ok(text?)
 }
 
 // What is said of each node for a pod, where it is to be placed. That changes nothing.
@@ -315,16 +308,15 @@ fn explain<J: Naming, T: Wait + Threads + Sync, D: Decider>(
     decider: &mut D,
     live: &mut LiveDesk<J>,
     uid: &Name,
-) -> Result<Vec<u8>, RunFault>
+) -> Result<Vec<u8>, NoMemory>
     ensures explained { IfOk result (λ text. IsExplained
         (rules_of D.Kit.answers (D.kits decider.old)) named.now live.old uid.now (to_place live.old uid.now) text.items) }
     ensures same { live.new ≡ live.old }
     ensures kits { D.kits decider.new ≡ D.kits decider.old }
-    ensures refused { IfErr result (λ fault. fault ≡ run_fault.NoMemory) }
 {
     match live.to_place(uid)? {
         Some(pod) => explain_pod(rt, alloc, named, decider, live, &pod, uid),
-        None => spelled(answer_text(alloc, Answer::NotWaiting)),
+        None => answer_text(alloc, Answer::NotWaiting),
     }
 }
 
@@ -337,17 +329,16 @@ fn explain_pod<J: Naming, T: Wait + Threads + Sync, D: Decider>(
     live: &mut LiveDesk<J>,
     pod: &SharedPod,
     uid: &Name,
-) -> Result<Vec<u8>, RunFault>
+) -> Result<Vec<u8>, NoMemory>
     ensures explained { IfOk result (λ text. IsExplained
         (rules_of D.Kit.answers (D.kits decider.old)) named.now live.old uid.now (Some pod.now) text.items) }
     ensures same { live.new ≡ live.old }
     ensures kits { D.kits decider.new ≡ D.kits decider.old }
-    ensures refused { IfErr result (λ fault. fault ≡ run_fault.NoMemory) }
 {
     let nodes = live.look()?;
     let seen = live.look()?;
     decider.decide(rt, seen, pod, true)?;
-    Ok(explained_text(alloc, named, pod, uid, nodes.rows(), decider.verdicts())?)
+    explained_text(alloc, named, pod, uid, nodes.rows(), decider.verdicts())
 }
 
 // What the desk knows.
@@ -355,13 +346,12 @@ fn dump<J: Naming, T: Wait>(
     rt: &T,
     alloc: Global,
     live: &mut LiveDesk<J>,
-) -> Result<Vec<u8>, RunFault>
+) -> Result<Vec<u8>, NoMemory>
     ensures text { IfOk result (λ text. text.items
         ≡ dump_text (snapshot live.old.desk.cluster) (reply live.old.desk 0 Count)) }
     ensures after { OnOk result (live.new ≡ steps live.old Count) }
-    ensures refused { IfErr result (λ fault. fault ≡ run_fault.NoMemory) }
 {
     let nodes = live.look()?;
     let reply = live.count(rt)?;
-    spelled(dump_text(alloc, &nodes, reply))
+    dump_text(alloc, &nodes, reply)
 }

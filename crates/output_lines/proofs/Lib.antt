@@ -1,3 +1,4 @@
+pub mod Added
 pub mod Indented
 pub mod OutputLines
 pub mod Pairs

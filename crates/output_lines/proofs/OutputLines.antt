@@ -1,5 +1,5 @@
 -- The lines of the output are whole lines: those of nodes are indented, and the others aren't.
-use Rattle.std.proofs.Common.{◌≡◌, ℕ, ◌-◌, ◌==◌, ◌&&◌, Bool, true, false, List, [], ◌∷◌, ◌++◌, Option, Some, Result, Ok, Err, OnOk, IsTrue, refl, ap, codes, decimal}
+use Rattle.std.proofs.Common.{◌≡◌, ℕ, ◌-◌, ◌==◌, ◌&&◌, Bool, true, false, List, [], ◌∷◌, ◌++◌, Option, Some, IsTrue, refl, ap, codes, decimal}
 use Rattle.std.specs.List.{list_all}
 use Rattle.quant.specs.Name.{is_name, is_text}
 use Rattle.quant.specs.declared.name.Name.{Name}
@@ -37,16 +37,6 @@ use Rattle.output_lines.specs.declared.named_rule.NamedRule.{NamedRule}
 use Rattle.output_lines.specs.Telling.{want_text, effect_name, taint_text, reason_text, code_of, part_text, parts_text, sum_text, total_text, verdict_text, verdict_line}
 use Rattle.output_lines.specs.Replies.{reply_lines}
 use Rattle.output_lines.proofs.Indented.{IsLine-by, IsLine-both, IsLine-decimal, IsLine-signed, IsLine-name, IsLine-text, is_flush, name_is_flush, not_true, one_line, more_lines, stands_in_line}
-
--- what holds anyway holds where a result is good
-pub always : {T E P : Type 0} (r : Result T E) → P → OnOk r P
-always (Ok x) p = p
-always (Err e) p = tt
-
--- where a result is good, what follows from something follows
-pub on_ok : {T E P Q : Type 0} (r : Result T E) → (P → Q) → OnOk r P → OnOk r Q
-on_ok (Ok x) f p = f p
-on_ok (Err e) f p = tt
 
 -- ---- parts of lines
 

@@ -1,5 +1,5 @@
 -- What a step is answered, where it was done.
-use Rattle.std.proofs.Common.{◌≡◌, ℕ, [], sym, subst}
+use Rattle.std.proofs.Common.{◌≡◌, [], sym, subst}
 use Rattle.std.specs.Prelude.{false}
 use Rattle.desk.specs.declared.step.Step.{Step}
 use Rattle.desk.specs.Machine as machine

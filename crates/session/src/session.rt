@@ -6,6 +6,7 @@ ghost use Rattle.desk.specs.Caller as caller;
 ghost use Rattle.desk.specs.Machine as machine;
 ghost use Rattle.session.specs.Answers.{after, text_of, opening, look_lines, Answered};
 ghost use Rattle.streams.specs.Greatest.{limits};
+ghost use Rattle.streams.specs.TextBuilder.{Adds};
 ghost use Rattle.output_lines.specs.Replies.{reply_lines, snapshot_lines};
 ghost use Rattle.choose.specs.Kits.{rules_of};
 ghost use Rattle.cycle.specs.CycleAlone.{IsCycleAlone};
@@ -24,14 +25,14 @@ use std::hash::RandomState;
 use std::marker::Model;
 use std::sync::Wait;
 use std::thread::Threads;
-use streams::RunFault;
+use streams::{RunFault, TextBuilder};
 
 /// A desk with its one pass, and room for an answer. Contracts see the desk's state.
 ///
 /// It isn't `Drop`: end it by `end`.
 pub struct Session<J: Naming> {
     desk: LoneDesk<J>,
-    text: Vec<u8>,
+    text: TextBuilder,
 }
 
 impl<J: Naming> Model for Session<J> {
@@ -65,7 +66,7 @@ impl<J: Naming> Session<J> {
         let desk = LoneDesk::<J>::new(rt, blank, alloc, keys, greatest)?;
         Ok(Session {
             desk,
-            text: Vec::new(alloc),
+            text: TextBuilder::new(alloc),
         })
     }
 
@@ -93,7 +94,7 @@ impl<J: Naming> Session<J> {
         let Session { desk, text } = self;
         text.clear();
         fill(rt, named, explains, decider, desk, command, text)?;
-        out.extend_from_slice(text)?;
+        out.extend_from_slice(text.whole()?)?;
         Ok(())
     }
 
@@ -112,12 +113,12 @@ fn fill<J: Naming, R: Wait + Threads + Sync, D: Decider>(
     decider: &mut D,
     desk: &mut LoneDesk<J>,
     command: Command,
-    text: &mut Vec<u8>,
+    text: &mut TextBuilder,
 ) -> Result<(), NoMemory>
     requires { line.IsTimely command }
     ensures answered { OnOk result ((told : List ℕ) ×
         Answered (rules_of D.Kit.answers (D.kits decider.old)) (telling named.now explains)
-        desk.old command desk.new told × (text.new.items ≡ text.old.items ++ told)) }
+        desk.old command desk.new told × Adds text.old text.new told) }
     ensures kits { D.kits decider.new ≡ D.kits decider.old }
 {
     match command {
@@ -142,16 +143,16 @@ fn do_step<J: Naming, R: Wait>(
     rt: &R,
     desk: &mut LoneDesk<J>,
     step: Step,
-    text: &mut Vec<u8>,
+    text: &mut TextBuilder,
 ) -> Result<(), NoMemory>
     requires timely { caller.IsTimely step }
     requires plain { look_lines desk.old step ≡ [] }
     ensures state { OnOk result (desk.new ≡ after desk.old step) }
-    ensures text { OnOk result (text.new.items ≡ text.old.items ++ text_of desk.old step) }
+    ensures text { OnOk result (Adds text.old text.new (text_of desk.old step)) }
     ensures lines { OnOk result (AreLines false (text_of desk.old step)) }
 {
     let reply = desk.apply(rt, step)?;
-    push_reply(text, reply)?;
+    push_reply(text, reply);
     Ok(())
 }
 
@@ -160,15 +161,15 @@ fn do_step<J: Naming, R: Wait>(
 fn dump<J: Naming, R: Wait>(
     rt: &R,
     desk: &mut LoneDesk<J>,
-    text: &mut Vec<u8>,
+    text: &mut TextBuilder,
 ) -> Result<(), NoMemory>
     ensures state { OnOk result (desk.new ≡ after desk.old Step.Count) }
-    ensures text { OnOk result (text.new.items ≡ text.old.items ++ text_of desk.old Step.Count) }
+    ensures text { OnOk result (Adds text.old text.new (text_of desk.old Step.Count)) }
     ensures lines { OnOk result (AreLines false (text_of desk.old Step.Count)) }
 {
     show(desk, text)?;
     let reply = desk.apply(rt, Step::Count)?;
-    push_reply(text, reply)?;
+    push_reply(text, reply);
     Ok(())
 }
 
@@ -180,15 +181,15 @@ fn do_cycle<J: Naming, R: Wait + Threads + Sync, D: Decider>(
     explains: bool,
     decider: &mut D,
     desk: &mut LoneDesk<J>,
-    text: &mut Vec<u8>,
+    text: &mut TextBuilder,
 ) -> Result<(), NoMemory>
     ensures cycled { OnOk result ((told : List ℕ) ×
         Answered (rules_of D.Kit.answers (D.kits decider.old)) (telling named.now explains)
-        desk.old commands.Cycle desk.new told × (text.new.items ≡ text.old.items ++ told)) }
+        desk.old commands.Cycle desk.new told × Adds text.old text.new told) }
     ensures kits { D.kits decider.new ≡ D.kits decider.old }
 {
     let came = tell_cycle(rt, named, explains, decider, desk, text)?;
-    push_cycled(text, named, &came)?;
+    push_cycled(text, named, &came);
     Ok(())
 }
 
@@ -200,13 +201,13 @@ fn tell_cycle<J: Naming, R: Wait + Threads + Sync, D: Decider>(
     explains: bool,
     decider: &mut D,
     desk: &mut LoneDesk<J>,
-    text: &mut Vec<u8>,
+    text: &mut TextBuilder,
 ) -> Result<Cycled, NoMemory>
     ensures cycled { IfOk result (λ came. IsCycleAlone (rules_of D.Kit.answers (D.kits decider.old)) desk.old
         came desk.new) }
     ensures told { OnOk result ((told : List ℕ) × TellsNodes (rules_of D.Kit.answers (D.kits decider.old)) named.now
         explains desk.old told
-        × AreLines true told × (text.new.items ≡ text.old.items ++ told)) }
+        × AreLines true told × Adds text.old text.new told) }
     ensures kits { D.kits decider.new ≡ D.kits decider.old }
 {
     let popped = desk.pop(rt)?;
@@ -219,7 +220,7 @@ fn tell_cycle<J: Naming, R: Wait + Threads + Sync, D: Decider>(
     }
     let snapshot = desk.look()?;
     let came = desk.place(rt, &pod, decider, true)?;
-    push_verdicts(text, named, &pod, snapshot.rows(), decider.verdicts())?;
+    push_verdicts(text, named, &pod, snapshot.rows(), decider.verdicts());
     Ok(came)
 }
 
@@ -229,30 +230,29 @@ fn judge<J: Naming, D: Decider>(
     decider: &mut D,
     desk: &mut LoneDesk<J>,
     question: &Question,
-    text: &mut Vec<u8>,
+    text: &mut TextBuilder,
 ) -> Result<(), NoMemory>
     ensures state { desk.new ≡ desk.old }
     ensures judged { OnOk result ((told : List ℕ) ×
         Judges (rules_of D.Kit.answers (D.kits decider.old)) named.now desk.old question.now told
-        × (text.new.items ≡ text.old.items ++ told)) }
+        × Adds text.old text.new told) }
     ensures kits { D.kits decider.new ≡ D.kits decider.old }
 {
     let snapshot = desk.look()?;
     let pod = &question.pod;
     decider.judge(&snapshot, pod, question.filters_alone)?;
-    push_rulings(text, named, pod, snapshot.rows(), decider.verdicts())?;
-    push_judged(text, &pod.uid, snapshot.rows().len() as u64)?;
+    push_rulings(text, named, pod, snapshot.rows(), decider.verdicts());
+    push_judged(text, &pod.uid, snapshot.rows().len() as u64);
     Ok(())
 }
 
 // Adds the lines of the nodes to the text.
-fn show<J: Naming>(desk: &mut LoneDesk<J>, text: &mut Vec<u8>) -> Result<(), NoMemory>
+fn show<J: Naming>(desk: &mut LoneDesk<J>, text: &mut TextBuilder) -> Result<(), NoMemory>
     ensures state { desk.new ≡ desk.old }
-    ensures text { OnOk result (text.new.items ≡ text.old.items
-        ++ snapshot_lines (machine.snapshot desk.old.cluster)) }
+    ensures text { OnOk result (Adds text.old text.new (snapshot_lines (machine.snapshot desk.old.cluster))) }
     ensures lines { OnOk result (AreLines false (snapshot_lines (machine.snapshot desk.old.cluster))) }
 {
     let snapshot = desk.look()?;
-    push_snapshot(text, &snapshot)?;
+    push_snapshot(text, &snapshot);
     Ok(())
 }

@@ -21,15 +21,15 @@ use book::Book;
 use choose::Decider;
 use crew::{Bell, FEEDERS, Worker, all_done, enlist, take_dump};
 use crossbeam_channel::unbounded;
-use desk::{Blank, Counts, Desk, Limits, Naming, Pass, Snapshot, Step};
+use desk::{Blank, Counts, Desk, Limits, Naming, NoMemory, Pass, Snapshot, Step};
 use output_lines::push_dump;
 use rules::Rules;
-use std::alloc::{AllocError, Global};
+use std::alloc::Global;
 use std::hash::RandomState;
 use std::marker::Brand;
 use std::sync::Wait;
 use std::thread::Threads;
-use streams::{RunFault, Sink, Source, write_all};
+use streams::{RunFault, Sink, Source, TextBuilder, write_all};
 use watch_script::read_script;
 
 // All passes of a desk: the feeders', one for each decider, one for each binder, and the last that
@@ -164,17 +164,17 @@ fn text_of(
     shown: &Snapshot,
     counts: Counts,
     is_right: bool,
-) -> Result<Vec<u8>, AllocError>
+) -> Result<Vec<u8>, NoMemory>
     ensures { IfOk result (λ text. text.items ≡ storm_text shown.now counts is_right) }
 {
-    let mut text = Vec::new(alloc);
-    push_dump(&mut text, shown, counts)?;
+    let mut text = TextBuilder::new(alloc);
+    push_dump(&mut text, shown, counts);
     if is_right {
-        text.extend_from_slice(b"audit ok\n")?;
+        text.put(b"audit ok\n");
     } else {
-        text.extend_from_slice(b"audit failed\n")?;
+        text.put(b"audit failed\n");
     }
-    Ok(text)
+    text.build()
 }
 
 // Makes the text of a storm whole, and writes it.

@@ -1,5 +1,6 @@
 use Rattle.std.proofs.Common.{◌≡◌, ◌∙◌, List, map, length, sym, ap, subst, refl}
 use Rattle.std.proofs.lemmas.List.{length-map}
+use Rattle.std.proofs.lemmas.Result.{IfOk-weaker}
 use Rattle.desk.specs.Machine.{snapshot}
 use Rattle.desk.specs.Shown.{Shown, shown}
 use Rattle.choose.specs.Choice.{AreVerdicts}
@@ -25,9 +26,7 @@ returns-clause-explained g c =
     let seen = c.in_ok-seen.ensures.shown ∙ ap (λ (s : Live). snapshot s.desk.cluster) c.look.ensures.same in
     let are : AreVerdicts rules pod (snapshot c.args.live.now.desk.cluster) c.verdicts.result.now =
     subst (λ vs. AreVerdicts rules pod (snapshot c.args.live.now.desk.cluster) vs) (sym c.verdicts.ensures)
-    (subst (λ (rows : List Shown). AreVerdicts rules pod rows (g.D.Decider.last c.decide.new.self)) seen (c.in_ok-decide.ensures.judged refl)) in (
-      c.verdicts.result.now,
-      are,
-      c.in_ok-explained_text.ensures
-          ∙ (λ i. explained_text c.args.named.now (c.deref.ensures i) c.args.uid.now (nodes i) c.verdicts.result.now),
-    )
+    (subst (λ (rows : List Shown). AreVerdicts rules pod rows (g.D.Decider.last c.decide.new.self)) seen (c.in_ok-decide.ensures.judged refl)) in
+    IfOk-weaker c.explained_text.result _ _
+    (λ text is. (c.verdicts.result.now, are, is ∙ (λ i. explained_text c.args.named.now (c.deref.ensures i) c.args.uid.now (nodes i) c.verdicts.result.now)))
+    c.explained_text.ensures

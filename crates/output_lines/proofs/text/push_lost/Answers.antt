@@ -1,5 +1,5 @@
-use Rattle.output_lines.proofs.OutputLines.{always, lost_lines}
+use Rattle.output_lines.proofs.OutputLines.{lost_lines}
 use Rattle.output_lines.proofs.text.push_lost.Goals as goal
 
 pub returns-clause-lines : goal.returns-clause-lines
-returns-clause-lines c = always _ (lost_lines _ _ c.as_bytes.ensures.valid)
+returns-clause-lines c = lost_lines _ _ c.as_bytes.ensures.valid

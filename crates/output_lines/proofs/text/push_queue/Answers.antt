@@ -1,7 +1,8 @@
-use Rattle.std.proofs.Common.{[], ◌∷◌}
-use Rattle.streams.proofs.Known.{OnOk-extended, two-pieces}
+use Rattle.streams.proofs.Built.{adds_both}
 use Rattle.output_lines.proofs.text.push_queue.Goals as goal
 
 pub returns : goal.returns
 returns c =
-    OnOk-extended c.extend_from_slice.result c.push_counts-2.new.out.items c.extend_from_slice.new.self.items (10 ∷ []) _ c.extend_from_slice.ensures.items (two-pieces c.args.out.now.items c.push_counts.new.out.items c.push_counts-2.new.out.items _ _ (10 ∷ []) c.in_ok-push_counts.ensures c.in_ok-push_counts-2.ensures)
+    let was = c.args.out.now in
+    let both = c.push_counts-2.new.out in
+    adds_both was both c.put.new.self _ _ (adds_both was c.push_counts.new.out both _ _ c.push_counts.ensures c.push_counts-2.ensures) c.put.ensures

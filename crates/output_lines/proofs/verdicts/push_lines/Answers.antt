@@ -1,4 +1,4 @@
-use Rattle.std.proofs.Common.{◌≡◌, ℕ, List, ◌+◌, ◌<◌, ◌≤◌, ◌++◌, ◌∷◌, [], true, add-one, append_assoc, length, map, take, get_or, zip, Option, Some, None, IfSome, sym, ap, subst, ◌∙◌, arith}
+use Rattle.std.proofs.Common.{◌≡◌, ℕ, List, ◌+◌, ◌<◌, ◌≤◌, ◌++◌, ◌∷◌, [], true, add-one, length, map, take, get_or, zip, Option, Some, None, IfSome, sym, ap, subst, ◌∙◌, arith}
 use Rattle.std.specs.List.{All, flat_map}
 use Rattle.std.proofs.lemmas.List.{flat_map_more, get_or_default, length-map, take_all}
 use Rattle.desk.specs.Shown.{Shown, shown}
@@ -6,6 +6,8 @@ use Rattle.choose.specs.Choice.{count_of}
 use Rattle.choose.specs.declared.decision.Reason.TheVariants.{Marked}
 use Rattle.choose.specs.declared.decision.Verdict.{Verdict}
 use Rattle.choose.specs.declared.decision.Verdict.TheVariants.{Rejected}
+use Rattle.streams.specs.TextBuilder.{Adds}
+use Rattle.streams.proofs.Built.{adds_both}
 use Rattle.output_lines.specs.Indented.{AreLines}
 use Rattle.output_lines.specs.Telling.{verdict_line}
 use Rattle.output_lines.proofs.Indented.{more_lines}
@@ -28,7 +30,6 @@ loop-at-preserved c =
     let vs = c.args.verdicts.now in
     let at = c.loop-at.at in
     let row = c.index-rows-at.result in
-    let was = c.args.out.now.items in
     let f : Shown × Verdict → List ℕ = verdict_line c.args.named.now c.args.most c.args.pod.now in
     let nodes = zip (map shown rows) vs in
     let v : Verdict = get_or vs at (Rejected Marked) in
@@ -36,11 +37,8 @@ loop-at-preserved c =
     let next : take (at + 1) nodes ≡ take at nodes ++ (shown row, v) ∷ [] =
     rw add-one (zip_more (map shown rows) vs at (shown row) v (omega (arith, c.loop-at-test.true, length-map rows shown)) below (image_at shown rows at row c.loop-at-test.true c.index-rows-at.is) (get_or_default vs at (Rejected Marked) v below)) in
     let more : flat_map f (take at nodes) ++ f (shown row, v) ≡ flat_map f (take (at + 1) nodes) = flat_map_more f [] (take at nodes) (shown row, v) ∙ ap (flat_map f) (sym next) in (
-      c.in_ok-push_line.ensures.text
-          ∙ ap (λ t. t ++ f (shown row, v)) c.loop-at.invariant.0
-          ∙ append_assoc was (flat_map f (take at nodes)) (f (shown row, v))
-          ∙ ap (λ t. was ++ t) more,
-      subst (AreLines true) more (more_lines true (flat_map f (take at nodes)) (f (shown row, v)) c.loop-at.invariant.1 c.in_ok-push_line.ensures.lines),
+      subst (Adds c.args.out.now c.push_line.new.out) more (adds_both c.args.out.now c.loop-at.out c.push_line.new.out _ _ c.loop-at.invariant.0 c.push_line.ensures.text),
+      subst (AreLines true) more (more_lines true (flat_map f (take at nodes)) (f (shown row, v)) c.loop-at.invariant.1 c.push_line.ensures.lines),
     )
 
 pub returns : goal.returns
@@ -54,6 +52,6 @@ returns c =
     ≡ flat_map (verdict_line c.args.named.now c.args.most c.args.pod.now) nodes =
     ap (flat_map (verdict_line c.args.named.now c.args.most c.args.pod.now)) (take_all c.loop-at.at nodes (omega (arith, many))) in
     record {
-      text = c.loop-at.invariant.0 ∙ ap (λ t. c.args.out.now.items ++ t) all;
+      text = subst (Adds c.args.out.now c.loop-at.out) all c.loop-at.invariant.0;
       lines = subst (AreLines true) all c.loop-at.invariant.1;
     }

@@ -1,4 +1,5 @@
-use Rattle.std.proofs.Common.{◌∙◌, ◌++◌, ap, append_assoc, refl}
+use Rattle.std.proofs.Common.{◌++◌, refl}
+use Rattle.streams.proofs.Built.{adds_both}
 use Rattle.output_lines.specs.Text.{cycle_line}
 use Rattle.session.proofs.session.do_cycle.Goals as goal
 
@@ -8,6 +9,6 @@ returns-clause-cycled g c =
     let told = c.in_ok-came.ensures.told in
     let line = cycle_line c.args.named.now c.in_ok-came.came in (
       told.0 ++ line,
-      (c.in_ok-came.came, c.in_ok-came.ensures.cycled, (told.0, told.1, told.2, c.in_ok-push_cycled.ensures.lines, refl)),
-      c.in_ok-push_cycled.ensures.text ∙ ap (λ t. t ++ line) told.3 ∙ append_assoc _ told.0 line,
+      (c.in_ok-came.came, c.in_ok-came.ensures.cycled, (told.0, told.1, told.2, c.push_cycled.ensures.lines, refl)),
+      adds_both c.args.text.now c.tell_cycle.new.text c.push_cycled.new.out told.0 line told.3 c.push_cycled.ensures.text,
     )

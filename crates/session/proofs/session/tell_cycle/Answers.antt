@@ -1,9 +1,10 @@
-use Rattle.std.proofs.Common.{◌≡◌, ◌∙◌, true, false, [], map, length, sym, ap, subst, refl, rules, append-nil}
+use Rattle.std.proofs.Common.{◌≡◌, ◌∙◌, true, false, [], map, length, sym, ap, subst, refl, rules}
 use Rattle.std.proofs.lemmas.List.{length-map}
 use Rattle.desk.specs.Machine.{State, snapshot}
 use Rattle.desk.specs.Shown.{shown}
 use Rattle.choose.specs.Kits.{rules_of}
 use Rattle.choose.proofs.Verdicts.{all_zip_length}
+use Rattle.streams.proofs.Built.{adds_nothing}
 use Rattle.output_lines.specs.Telling.{TellsNodes, verdict_lines}
 use Rattle.output_lines.proofs.Indented.{no_lines}
 use Rattle.session.proofs.Nodes.{idle_cycle, placed_cycle, told, unexplained, untold}
@@ -19,7 +20,7 @@ returns-in-None-clause-cycled g c =
 pub returns-in-None-clause-told : goal.returns-in-None-clause-told
 returns-in-None-clause-told g c =
     let pops = rw c.in-None.is at c.in_ok-popped.ensures.popped in
-    ([], untold _ _ _ _ pops, no_lines true, sym (append-nil _))
+    ([], untold _ _ _ _ pops, no_lines true, adds_nothing c.args.text.now)
 
 -- ---- one was, and nothing is to be told
 
@@ -31,7 +32,7 @@ returns-then-not-explains-clause-cycled g c =
 pub returns-then-not-explains-clause-told : goal.returns-then-not-explains-clause-told
 returns-then-not-explains-clause-told g c =
     let no : c.args.explains ≡ false = search rules in
-    ([], unexplained _ _ _ _ no, no_lines true, sym (append-nil _))
+    ([], unexplained _ _ _ _ no, no_lines true, adds_nothing c.args.text.now)
 
 -- ---- one was, and it is explained
 
@@ -57,6 +58,6 @@ returns-clause-told g c =
       verdict_lines c.args.named.now c.deref.result.now (map shown c.rows.result.now) c.verdicts.result.now,
       subst (TellsNodes (rules_of g.D.Kit.Rules.answers (g.D.Decider.kits c.args.decider.now)) c.args.named.now c.args.explains c.args.desk.now)
           (λ i. verdict_lines c.args.named.now (sym c.deref.ensures i) (sym seen i) (sym c.verdicts.ensures i)) tells,
-      c.in_ok-push_verdicts.ensures.lines,
-      c.in_ok-push_verdicts.ensures.text,
+      c.push_verdicts.ensures.lines,
+      c.push_verdicts.ensures.text,
     )
