@@ -6,7 +6,7 @@ ghost use Rattle.desk.specs.Caller as caller;
 ghost use Rattle.desk.specs.Machine as machine;
 ghost use Rattle.session.specs.Answers.{after, text_of, opening, look_lines, Answered};
 ghost use Rattle.streams.specs.Greatest.{limits};
-ghost use Rattle.streams.specs.TextBuilder.{Adds};
+ghost use Rattle.streams.specs.TextBuilder.{Adds, Holds};
 ghost use Rattle.output_lines.specs.Replies.{reply_lines, snapshot_lines};
 ghost use Rattle.choose.specs.Kits.{rules_of};
 ghost use Rattle.cycle.specs.CycleAlone.{IsCycleAlone};
@@ -94,8 +94,7 @@ impl<J: Naming> Session<J> {
         let Session { desk, text } = self;
         text.clear();
         fill(rt, named, explains, decider, desk, command, text)?;
-        out.extend_from_slice(text.whole()?)?;
-        Ok(())
+        hand_out(text, out)
     }
 
     /// Ends the desk.
@@ -103,6 +102,16 @@ impl<J: Naming> Session<J> {
         let Session { desk, text: _ } = self;
         desk.end(rt);
     }
+}
+
+// Adds a text to the output, whole or not at all.
+fn hand_out(text: &TextBuilder, out: &mut Vec<u8>) -> Result<(), NoMemory>
+    ensures whole { OnOk result ((told : List ℕ) × Holds text.now told × (out.new.items ≡ out.old.items ++ told)) }
+    ensures kept { OnErr result (out.new.items ≡ out.old.items) }
+{
+    let whole = text.whole()?;
+    out.extend_from_slice(whole)?;
+    Ok(())
 }
 
 // Does what a command asks for, and adds the answer to the text.
