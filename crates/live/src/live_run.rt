@@ -219,12 +219,11 @@ fn answer_line<J: Naming, T: Wait + Threads + Sync, D: Decider>(
     live: &mut LiveDesk<J>,
     line: &[u8],
     waits: &mut Vec<u8>,
-) -> Result<(), RunFault>
+) -> Result<(), NoMemory>
     ensures answered { OnOk result (IsLineAnswered
         (manner (site_of site.now) (rules_of D.Kit.answers (D.kits decider.old)) named.now)
         live.old line.now live.new waits.old.items waits.new.items) }
     ensures kits { D.kits decider.new ≡ D.kits decider.old }
-    ensures refused { IfErr result (λ fault. fault ≡ run_fault.NoMemory) }
 {
     let text = answer_to(rt, alloc, site, named, decider, live, line)?;
     waits.extend_from_slice(&text)?;
@@ -335,9 +334,9 @@ fn explain_pod<J: Naming, T: Wait + Threads + Sync, D: Decider>(
     ensures same { live.new ≡ live.old }
     ensures kits { D.kits decider.new ≡ D.kits decider.old }
 {
-    let nodes = live.look()?;
     let seen = live.look()?;
     decider.decide(rt, seen, pod, true)?;
+    let nodes = live.look()?;
     explained_text(alloc, named, pod, uid, nodes.rows(), decider.verdicts())
 }
 

@@ -56,7 +56,7 @@ returns-in_err-answer_line g c =
     let p = err_from_is_err_and c.from_residual-in_err-answer_line.result c.from_residual-in_err-answer_line.ensures.1 in
     let at = c.lines.invariant in
     let so_far = going_partly _ _ _ _ _ _ _ _ _ c.in_ok-flush_if.ensures.written at.going in
-    wanting_room _ _ _ _ _ p.1 (p.2 ∙ c.in_err-answer_line.ensures.refused)
+    wanting_room _ _ _ _ _ p.1 p.2
     (c.in_ok-next_front.ensures.kept (λ eq. cc) ∙ at.reads) (c.in_ok-flush_if.ensures.count ∙ at.writes)
     (front_now _ _ _ _ _ _ _ so_far)
 
