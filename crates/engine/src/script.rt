@@ -39,7 +39,9 @@ fn flush<W: Sink>(sink: &mut W, pending: &mut Vec<u8>) -> Result<(), RunFault>
     ensures failed { CountsFailure (W.failure_count sink.old) (W.failure_count sink.new) result }
     ensures faults { IfErr result (λ e. e ≡ RunFault.Write) }
 {
-    write_all(sink, pending).map_err(|_| RunFault::Write)?;
+    let Ok(()) = write_all(sink, pending) else {
+        return Err(RunFault::Write);
+    };
     pending.clear();
     Ok(())
 }

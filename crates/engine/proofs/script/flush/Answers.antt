@@ -6,5 +6,5 @@ use Rattle.engine.proofs.script.flush.Goals as goal
 pub returns-clause-written : goal.returns-clause-written
 returns-clause-written g c = search rules
 
-pub returns-in_err-map_err-clause-front : goal.returns-in_err-map_err-clause-front
-returns-in_err-map_err-clause-front g c = search rules
+pub returns-in_default-clause-front : goal.returns-in_default-clause-front
+returns-in_default-clause-front g c = search rules
