@@ -12,8 +12,8 @@ use command::TranslatePlan;
 use fault_line::{Fault, LineUncounted, excerpt_of, report};
 use objects::{MAX_OBJECT, Site, Translation, object_name, translate};
 use quant::{MAX_VERSION, Version};
-use std::alloc::{AllocError, Global};
-use streams::{LineReader, RunFault, Sink, Source};
+use std::alloc::Global;
+use streams::{LineReader, NoMemory, RunFault, Sink, Source};
 
 // The most bytes of a line that are kept: one more than an object may have, by which it is known to
 // be too long.
@@ -165,7 +165,7 @@ fn wait_for(
     line: &[u8],
     translation: &Translation,
     waits: &mut Waiting,
-) -> Result<(), AllocError>
+) -> Result<(), NoMemory>
     ensures answers { OnOk result (waits.new.answers.items
         ≡ waits.old.answers.items ++ answer_text answers translation.now) }
     ensures left_out { OnOk result (waits.new.left_out.items

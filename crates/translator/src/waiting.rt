@@ -10,7 +10,7 @@ ghost use Rattle.translator.specs.inside.Waiting.{IsUnwritten};
 
 use fault_line::Fault;
 use std::alloc::{AllocError, Global};
-use streams::{RunFault, Sink, write_all};
+use streams::{NoMemory, RunFault, Sink, write_all};
 
 // So much may wait before it is written, while whole lines are there to be answered.
 const MAX_WAITING: usize = 65_536;
@@ -60,7 +60,7 @@ impl Waiting {
     }
 
     // Adds an answer, and what is told beside it.
-    pub(crate) fn add(&mut self, answer: &[u8], left_out: &[u8]) -> Result<(), AllocError>
+    pub(crate) fn add(&mut self, answer: &[u8], left_out: &[u8]) -> Result<(), NoMemory>
         ensures answers { OnOk result (self.new.answers.items ≡ self.old.answers.items ++ answer.now) }
         ensures left_out { OnOk result (self.new.left_out.items ≡ self.old.left_out.items ++ left_out.now) }
         ensures kept { OnErr result ((self.new.answers.items ≡ self.old.answers.items)
@@ -70,9 +70,9 @@ impl Waiting {
         self.answers.extend_from_slice(answer)?;
         match self.left_out.extend_from_slice(left_out) {
             Ok(()) => Ok(()),
-            Err(refused) => {
+            Err(_) => {
                 self.answers.truncate(len);
-                Err(refused)
+                Err(NoMemory)
             }
         }
     }
@@ -96,8 +96,12 @@ impl Waiting {
         ensures stopped { IfErr result (IsUnwritten (W.failure_count out.old) (W.failure_count out.new)
             (E.failure_count err.old) (E.failure_count err.new)) }
     {
-        write_all(err, &self.left_out).map_err(|_| Stopped::Untold)?;
-        write_all(out, &self.answers).map_err(|_| Stopped::By(Fault::Run(RunFault::Write)))?;
+        let Ok(()) = write_all(err, &self.left_out) else {
+            return Err(Stopped::Untold);
+        };
+        let Ok(()) = write_all(out, &self.answers) else {
+            return Err(Stopped::By(Fault::Run(RunFault::Write)));
+        };
         self.answers.clear();
         self.left_out.clear();
         Ok(())
