@@ -114,7 +114,6 @@ pub struct DataSegment {
 /// What a module has, section by section. There are as many signatures, the indices of the
 /// functions' types, as codes. `start` is the index of the function that runs first, if there is
 /// one.
-#[derive(Drop)]
 pub struct Tables {
     pub types: Vec<FunctionType>,
     pub imports: Vec<Import>,
@@ -129,8 +128,26 @@ pub struct Tables {
     pub data_segments: Vec<DataSegment>,
 }
 
+// By hand, so that who drops tables calls this, and their parts' drops are proved here alone.
+impl Drop for Tables {
+    fn drop(self) {
+        let Self {
+            types: _types,
+            imports: _imports,
+            signatures: _signatures,
+            tables: _tables,
+            memories: _memories,
+            globals: _globals,
+            exports: _exports,
+            start: _,
+            element_segments: _element_segments,
+            codes: _codes,
+            data_segments: _data_segments,
+        } = self;
+    }
+}
+
 /// A module: its bytes, and tables that say where things are in them. Only `decode` makes one.
-#[derive(Drop)]
 pub struct Module {
     bytes: Vec<u8>,
     tables: Tables,
@@ -148,6 +165,16 @@ impl Model for Module {
     ghost view = { λ m. record { bytes = m.bytes.items; tables = m.tables } };
 
     ghost invariant = { λ m. Stands m.bytes.items m.tables };
+}
+
+// By hand, so that who drops a module calls this, and its parts' drops are proved here alone.
+impl Drop for Module {
+    fn drop(self) {
+        let Self {
+            bytes: _bytes,
+            tables: _tables,
+        } = self;
+    }
 }
 
 impl Module {
