@@ -18,7 +18,6 @@ use wbody::{Notes, TypeFault};
 
 /// A module that is accepted, with the notes of its bodies and the functions that are called. Only
 /// `validate` makes one.
-#[derive(Drop)]
 pub struct Checked {
     module: Module,
     notes: Vec<Notes>,
@@ -42,6 +41,17 @@ impl Model for Checked {
     ghost invariant = { λ c. Accepted (module_of c.module) × NotesAgree c.module c.notes.items
         × (c.called.filter ≡ index_named filter_name (module_of c.module))
         × (c.called.score ≡ index_named score_name (module_of c.module)) };
+}
+
+// By hand, so that who drops one calls this, and its parts' drops are proved here alone.
+impl Drop for Checked {
+    fn drop(self) {
+        let Self {
+            module: _module,
+            notes: _notes,
+            called: _,
+        } = self;
+    }
 }
 
 impl Checked {
