@@ -8,7 +8,6 @@ use std::marker::Model;
 
 /// Places that are written one by one. Where none was written since the image was kept, both ways
 /// of making them alike copy nothing.
-#[derive(Drop)]
 pub struct Kept<T> {
     places: Vec<T>,
     image: Vec<T>,
@@ -25,6 +24,17 @@ impl<T> Model for Kept<T> {
     ghost view = { λ k. record { places = k.places.items; image = k.image.items } };
 
     ghost invariant = { λ k. IsKept k.places.items k.image.items k.written };
+}
+
+// By hand, so that who drops such places calls this, and their parts' drops are proved here alone.
+impl<T: Drop> Drop for Kept<T> {
+    fn drop(self) {
+        let Self {
+            places: _places,
+            image: _image,
+            written: _,
+        } = self;
+    }
 }
 
 impl<T: Copy> Kept<T> {

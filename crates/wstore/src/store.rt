@@ -39,7 +39,6 @@ fn is_memory(memory: &Memory)
 /// brought back to.
 ///
 /// Globals are kept as numbers of 64 bits without their types, which the module has.
-#[derive(Drop)]
 pub struct Store {
     checked: Arc<Checked>,
     memory: Memory,
@@ -60,6 +59,18 @@ impl Model for Store {
     ghost view = { state_of };
 
     ghost invariant = { IsSound };
+}
+
+// By hand, so that who drops a store calls this, and its parts' drops are proved here alone.
+impl Drop for Store {
+    fn drop(self) {
+        let Self {
+            checked: _checked,
+            memory: _memory,
+            globals: _globals,
+            table: _table,
+        } = self;
+    }
 }
 
 impl Store {
