@@ -28,7 +28,6 @@ use wtype::Checked;
 /// beside them it has the notes of the module's branches, one row for each function, and slots of
 /// 64 bits without tags for 256 frames of the widest function. It takes all its room when it is
 /// made; after that no call allocates.
-#[derive(Drop)]
 pub struct Machine {
     checked: Arc<Checked>,
     store: Store,
@@ -50,6 +49,20 @@ impl Model for Machine {
     ghost view = { machine_of };
 
     ghost invariant = { IsMachine };
+}
+
+// By hand, so that who drops a machine calls this, and its parts' drops are proved here alone.
+impl Drop for Machine {
+    fn drop(self) {
+        let Self {
+            checked: _checked,
+            store: _store,
+            shapes: _shapes,
+            records: _records,
+            slots: _slots,
+            waiting: _waiting,
+        } = self;
+    }
 }
 
 // What is so of every checked module; for the proof alone.
