@@ -1,15 +1,21 @@
-use Rattle.std.proofs.Common.{◌≡◌, Some, None, sym, ap, ◌∙◌, rules}
+use Rattle.std.proofs.Common.{◌≡◌, Some, None, length, ap, ◌∙◌, subst, rules, arith}
+use Rattle.std.specs.Prelude.{vec_len}
+use Rattle.wbin.specs.declared.module.Tables.{Tables}
 use Rattle.wtype.specs.Accepted.{host_number}
-use Rattle.wmach.proofs.Recorded.{name_in, names_in, has_record, one_more, all_of}
+use Rattle.wmach.proofs.Recorded.{SoFar, name_in, names_in, has_record, one_more, all_of}
 use Rattle.wmach.proofs.records.records_of.Goals as goal
 
 pub loop-place-preserved : goal.loop-place-preserved
 loop-place-preserved c =
     let named : host_number (name_in c.import_at-import.result.now) ≡ Some c.in-Some.record = ap host_number (names_in c.import_at-import.result.now _ _ c.as_slice.ensures.value c.as_slice-in-loop-place.ensures.value) ∙ c.host_number.ensures ∙ c.in-Some.is in
-    one_more c.args.decoded.now c.loop-place.records.items _ c.in-Some.record c.loop-place.place c.import_at-import.result.now c.loop-place.invariant c.import_at-import.ensures named (search rules)
+    one_more c.args.decoded.now c.loop-place.records.items _ c.in-Some.record c.loop-place.place c.import_at-import.result.now c.loop-place.invariant c.import_at-import.ensures named c.in_ok-push.ensures.items
 
 pub returns : goal.returns
-returns c = all_of c.args.decoded.now _ c.requires (search rules)
+returns c =
+    let p = c.args.decoded.now in
+    let count = c.len-count.ensures ∙ ap (λ (t : Tables). vec_len t.imports) c.tables.ensures.tables in
+    let all : c.loop-place.place ≡ length p.tables.imports.items = omega (arith, count, c.loop-place-test.false, c.loop-place.auto.place-end) in
+    all_of p _ c.requires (subst (λ n. SoFar p c.loop-place.records.items n) all c.loop-place.invariant)
 
 pub unreachable-requires : goal.unreachable-requires
 unreachable-requires c =
