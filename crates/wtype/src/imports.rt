@@ -1,7 +1,8 @@
 //! The imports that a module may have: the functions of the host.
 
-ghost use Rattle.std.specs.Prelude.{◌≡◌, [], ◌∷◌, IsSome, MatchBool};
+ghost use Rattle.std.specs.Prelude.{◌≡◌, ◌≤◌, ◌+◌, [], ◌∷◌, Some, None, IsSome, MatchBool, if◌then◌else◌, codes};
 ghost use Rattle.std.specs.List.{AllByRecursion};
+ghost use Rattle.std.specs.Str.{bytes_eq};
 ghost use Rattle.wbin.specs.Syntax.{module_of, signature_of, import_of};
 ghost use Rattle.wtype.specs.Accepted.{ImportAllowed, ImportsRight, IsImportOf, host_number as defined_number, host_type};
 
@@ -14,18 +15,27 @@ use wcode::ValueType;
 pub fn host_number(from: &[u8], name: &[u8]) -> Option<usize>
     ensures { defined_number (from.now, name.now) ≡ result }
 {
-    if from == b"sched".as_slice() && name == b"pod".as_slice() {
-        Some(0)
-    } else if from == b"sched".as_slice() && name == b"node".as_slice() {
-        Some(1)
-    } else if from == b"sched2".as_slice() && name == b"pod".as_slice() {
-        Some(2)
-    } else if from == b"sched2".as_slice() && name == b"node".as_slice() {
-        Some(3)
-    } else if from == b"sched3".as_slice() && name == b"pod".as_slice() {
-        Some(4)
-    } else if from == b"sched3".as_slice() && name == b"node".as_slice() {
-        Some(5)
+    if from == b"sched".as_slice() {
+        number_from(0, name)
+    } else if from == b"sched2".as_slice() {
+        number_from(2, name)
+    } else if from == b"sched3".as_slice() {
+        number_from(4, name)
+    } else {
+        None
+    }
+}
+
+// The number of the function of this name, where the pod's has this one and the node's the next.
+fn number_from(first: usize, name: &[u8]) -> Option<usize>
+    requires { first ≤ 4 }
+    ensures { result ≡ (if bytes_eq name.now (codes "pod") then Some first
+        else (if bytes_eq name.now (codes "node") then Some (first + 1) else None)) }
+{
+    if name == b"pod".as_slice() {
+        Some(first)
+    } else if name == b"node".as_slice() {
+        Some(first + 1)
     } else {
         None
     }
