@@ -6,6 +6,7 @@ ghost use Rattle.std.specs.Str.{bytes_eq};
 ghost use Rattle.wbin.specs.Syntax.{module_of, signature_of, import_of};
 ghost use Rattle.wtype.specs.Accepted.{ImportAllowed, ImportsRight, IsImportOf, host_number as defined_number, host_type};
 
+use crate::function_types::listed;
 use wbin::{FunctionType, Import, ImportKind, Module};
 use wcode::ValueType;
 
@@ -67,8 +68,7 @@ fn is_host_function(decoded: &Module, kind: ImportKind) -> bool
     let ImportKind::Function(index) = kind else {
         return false;
     };
-    let types = decoded.tables().types.as_slice();
-    match types.get(index as usize) {
+    match listed(decoded, index) {
         Some(found) => is_host_type(found),
         None => false,
     }
