@@ -26,7 +26,6 @@ use wtype::Checked;
 /// An accepted module with its segments written and its start function run. What its store was then
 /// is the image, from which each call begins. It takes all its room when it is made; after that no
 /// call allocates.
-#[derive(Drop)]
 pub struct Instance {
     machine: Machine,
 }
@@ -40,6 +39,13 @@ impl Model for Instance {
     ghost coded = { Prim.hlevel codes };
 
     ghost view = { λ instance. instance.machine };
+}
+
+// By hand, so that who drops an instance calls this, and its parts' drops are proved here alone.
+impl Drop for Instance {
+    fn drop(self) {
+        let Self { machine: _machine } = self;
+    }
 }
 
 // Whether a call was cut off for want of a record.
