@@ -186,10 +186,6 @@ pub line_at : (plugins : List Ready) (pod : List ℕ) (lines : List Line) (at : 
     → AllByRecursion (LineHolds plugins pod) lines → LineHolds plugins pod line
 line_at plugins pod lines at line below is hold = subst (LineHolds plugins pod) (sym is) (all_at (LineHolds plugins pod) lines at line hold below)
 
--- an element of a list is one, however it is read
-pub same_element : {A : Type 0} (xs : List A) (i : ℕ) (a b : A) → i < length xs → a ≡ get_or xs i a → b ≡ get_or xs i b → a ≡ b
-same_element xs i a b within is are = cc (slice_get_read xs (length xs) i a refl within is, slice_get_read xs (length xs) i b refl within are)
-
 -- the same of classes
 pub class_set : (plugins : List Ready) (classes : List Class) (at : ℕ) (before after : Class) → at < length classes → before ≡ get_or classes at before
     → (ClassHolds plugins before → ClassHolds plugins after) → AllByRecursion (ClassHolds plugins) classes → AllByRecursion (ClassHolds plugins) (slice_set classes at after)

@@ -1,16 +1,13 @@
 -- What a plugin said of all nodes it says of each.
-use Rattle.std.proofs.Common.{◌≡◌, ℕ, ◌<◌, List, Option, Some, None, IfSome, sym, ap, ◌∙◌, subst, inr}
-use Rattle.wmach.specs.declared.export.Export.{Export}
-use Rattle.wmach.specs.declared.outcome.Outcome.{Outcome}
-use Rattle.wmach.specs.Call.{MachineState}
-use Rattle.whost.specs.Calls.{CallsFromImage}
+use Rattle.std.proofs.Common.{◌≡◌, ℕ, List, Option, Some, None, IfSome, sym, subst}
+use Rattle.whost.specs.Handed.{LookAlike}
+use Rattle.whost.specs.declared.sight.Shows.TheVariants.{ThisPod}
+use Rattle.whost.proofs.InstanceLemmas.{same_pod}
 use Rattle.whost.specs.declared.records.Records.{Records}
 use Rattle.whost.specs.declared.records.Versions.{Versions}
 use Rattle.rules.specs.declared.verdict.ScoreVerdict.{ScoreVerdict}
 use Rattle.rules.specs.Verdict.{IsWithin}
-use Rattle.plugin.specs.Kit.{Ready, Says}
 use Rattle.plugin.specs.inside.Said.{SaidOfAll}
-use Rattle.plugin.proofs.KitLemmas.{ends_of_call}
 
 -- with a pod that has the same records
 with_this_pod : {V : Type 0} (Says : Records → V → Type 0) (v : V) (first second third : List ℕ) (records : Records) → first ≡ records.pod.first → second ≡ records.pod.second → third ≡ records.pod.third
@@ -47,17 +44,8 @@ pub noted_within : (said now : Option ScoreVerdict) → IfSome now (λ v. said �
 noted_within said None is within = tt
 noted_within said (Some v) is within = subst (λ (s : Option ScoreVerdict). IfSome s IsWithin) is within
 
--- a call that is shown no node is one with each
-pub of_call : {V : Type 0} (weight fuel : ℕ) (before after : MachineState) (export : Export) (records : Records) (outcome : Outcome) (without : V) (said : Outcome → V) (v : V)
-    → ((node : Versions) → CallsFromImage before export (record records { node = node }) fuel outcome after) → v ≡ said outcome
-    → (node : Versions) → Says (record { weight = weight; fuel = fuel; content = before.content; image = before.image }) export without said (record records { node = node }) v
-of_call weight fuel before after export records outcome without said v calls is node =
-    inr (outcome, ends_of_call weight fuel before after export (record records { node = node }) outcome (calls node), is)
-
--- a plugin by its instance
-abbrev pub plugin_of : (weight fuel : ℕ) → MachineState → Ready
-plugin_of weight fuel m = record { weight = weight; fuel = fuel; content = m.content; image = m.image }
-
--- it is the same where its instance's store alone has changed
-pub same_plugin : (weight fuel : ℕ) (before after : MachineState) → after ≡ record before { store = after.store } → plugin_of weight fuel before ≡ plugin_of weight fuel after
-same_plugin weight fuel before after stays = ap (λ (m : MachineState). plugin_of weight fuel m) (sym stays)
+-- what is said where the pod's records alone are shown is said of each node
+pub of_each_node : {V : Type 0} (Says : Records → V → Type 0) (said : Option V) (records : Records) → IfSome said (λ v. (told : Records) → LookAlike ThisPod records told → Says told v)
+    → IfSome said (λ v. (node : Versions) → Says (record records { node = node }) v)
+of_each_node Says None records says = tt
+of_each_node Says (Some v) records says = λ node. says (record records { node = node }) (same_pod records node)

@@ -32,6 +32,32 @@ pub struct Habit {
     wait: u8,
 }
 
+impl Reach {
+    // The further it reaches, the less this is.
+    fn rank(self) -> u8 {
+        match self {
+            Reach::Class => 0,
+            Reach::Row => 1,
+            Reach::Node => 2,
+            Reach::Here => 3,
+        }
+    }
+
+    // As far as an answer may reach that isn't to reach this far.
+    fn shorter(self) -> Reach {
+        match self {
+            Reach::Class => Reach::Row,
+            Reach::Row => Reach::Node,
+            Reach::Node | Reach::Here => Reach::Here,
+        }
+    }
+
+    /// Whether an answer that reaches this far at most may reach as far as that.
+    pub fn allows(self, far: Reach) -> bool {
+        self.rank() <= far.rank()
+    }
+}
+
 impl Habit {
     /// Nothing is known of the rule.
     pub fn new() -> Habit {
@@ -50,9 +76,12 @@ impl Habit {
         self.reach
     }
 
-    /// Notes that a rule asked for more, so that its answer reaches this far at most.
-    pub fn narrow(&mut self, reach: Reach) {
-        self.reach = reach;
-        self.wait = CALLS_BETWEEN;
+    /// Notes whether a rule answered that was shown what lets its answer reach this far: where it
+    /// asked for more, its answers reach less far.
+    pub fn note(&mut self, has_answered: bool, far: Reach) {
+        if !has_answered {
+            self.reach = far.shorter();
+            self.wait = CALLS_BETWEEN;
+        }
     }
 }

@@ -12,7 +12,7 @@ ghost use Rattle.plugin.specs.inside.Kept.{ClassHolds, HearOfAll, Holds, KeptHol
 
 use crate::answers::{Answers, Heard, Known, no_answers, nothing};
 use crate::asked::Reach;
-use quant::{Name, Res, SharedNode};
+use quant::{Res, SharedNode};
 use std::alloc::Global;
 use whost::Record;
 
@@ -111,18 +111,18 @@ impl Line {
         }
     }
 
-    // What is known of this row with so much used. What was said of another row of its name, or
-    // where something else was used, is forgotten.
-    fn show(&mut self, node: &SharedNode, used: &Res) -> Known
+    // What is known of this row with so much used, and whether another one stood there. What was
+    // said of another row of its name, or where something else was used, is forgotten.
+    fn show(&mut self, node: &SharedNode, used: &Res) -> (Known, bool)
         ensures keeps { (plugins : List Ready) (pod : List ℕ) → LineHolds plugins pod self.old →
             LineHolds plugins pod self.new }
         ensures known { (plugins : List Ready) (pod : List ℕ) → LineHolds plugins pod self.old →
-            Holds plugins pod node.now used.now result }
+            Holds plugins pod node.now used.now result.0 }
     {
         if !self.is_of(node) {
-            return self.begin_anew(node, used);
+            return (self.begin_anew(node, used), true);
         }
-        self.known_by(used)
+        (self.known_by(used), false)
     }
 
     // What is known of its row with so much used. Where something else was used, what was said by
@@ -221,12 +221,16 @@ impl Class {
         }
     }
 
-    // The first line from a place on that is of a node of this name.
-    fn find(&self, from: usize, name: &Name) -> Option<usize>
+    // The first line from a place on that is of a node of this name. Most often it is the one there,
+    // and of this row.
+    fn find(&self, from: usize, node: &SharedNode) -> Option<usize>
         ensures { IfSome result (λ at. at < length self.now.lines.items) }
     {
+        if from < self.lines.len() && self.lines[from].is_of(node) {
+            return Some(from);
+        }
         for at in from..self.lines.len() {
-            if self.lines[at].node.name == *name {
+            if self.lines[at].node.name == node.name {
                 return Some(at);
             }
         }
@@ -242,22 +246,13 @@ impl Class {
         ensures of_all { result.of_all ≡ self.old.of_all }
     {
         self.shown = self.shown.saturating_add(1);
-        let of_all = self.of_all;
-        if from < self.lines.len() && self.lines[from].is_of(node) {
-            return Sighted {
-                line: from,
-                of_all,
-                known: self.lines[from].known_by(used),
-                is_changed: false,
-            };
-        }
-        match self.find(from, &node.name) {
+        match self.find(from, node) {
             Some(line) => {
-                let is_changed = !self.lines[line].is_of(node);
+                let (known, is_changed) = self.lines[line].show(node, used);
                 Sighted {
                     line,
-                    of_all,
-                    known: self.lines[line].show(node, used),
+                    of_all: self.of_all,
+                    known,
                     is_changed,
                 }
             }

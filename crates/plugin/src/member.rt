@@ -22,15 +22,21 @@ use whost::{Instance, InstanceFault, Records, Shows};
 use wmach::{Export, Outcome};
 use wtype::Checked;
 
+/// How much fuel a plugin's calls have used, from 2^64 on from 0 again.
+#[derive(Clone, Copy)]
+pub struct Spent {
+    all: u64,
+    // As much of that as calls have used that were shown no node.
+    once: u64,
+}
+
 /// An instance of a plugin's module, how much the plugin's score counts, the fuel of each of its
 /// calls, and how much these have used so far, which contracts don't see.
 #[derive(Drop)]
 pub struct Member {
     weight: u8,
     fuel: u64,
-    spent: u64,
-    // As much of that as calls have used that were shown no node.
-    spent_once: u64,
+    spent: Spent,
     instance: Instance,
     // What its filter and its score said of all nodes.
     filter: Said<FilterVerdict>,
@@ -58,19 +64,14 @@ impl Model for Member {
     ghost invariant = { IsSound };
 }
 
-// Counts the fuel of a call, and apart that of one that was shown no node.
-fn count(spent: &mut u64, spent_once: &mut u64, outcome: Outcome, shows: Shows) {
-    let fuel = fuel_used(outcome);
-    *spent = spent.wrapping_add(fuel);
-    if shows == Shows::Class || shows == Shows::ThisPod {
-        *spent_once = spent_once.wrapping_add(fuel);
-    }
-}
-
-// The same of one that was shown no node, and counts only where it didn't ask for one.
-fn count_once(spent: &mut u64, spent_once: &mut u64, outcome: Option<Outcome>) {
-    if let Some(outcome) = outcome {
-        count(spent, spent_once, outcome, Shows::ThisPod);
+impl Spent {
+    // Counts the fuel of a call, and apart that of one that was shown no node.
+    fn count(&mut self, outcome: Outcome, shows: Shows) {
+        let fuel = fuel_used(outcome);
+        self.all = self.all.wrapping_add(fuel);
+        if shows == Shows::Class || shows == Shows::ThisPod {
+            self.once = self.once.wrapping_add(fuel);
+        }
     }
 }
 
@@ -99,8 +100,7 @@ impl Member {
         Ok(Member {
             weight,
             fuel,
-            spent: 0,
-            spent_once: 0,
+            spent: Spent { all: 0, once: 0 },
             instance,
             filter,
             score,
@@ -125,12 +125,12 @@ impl Member {
 
     /// How much fuel its calls have used so far, from 2^64 on from 0 again.
     pub fn spent(&self) -> u64 {
-        self.spent
+        self.spent.all
     }
 
     /// As much of that as calls have used that were shown no node.
     pub fn spent_once(&self) -> u64 {
-        self.spent_once
+        self.spent.once
     }
 
     /// What its filter says, and how far that reaches: it is shown as little of the records as it
@@ -140,13 +140,13 @@ impl Member {
         ensures stays { self.new ≡ record self.old { store = self.new.store } }
     {
         let next = self.filter_habit.next();
-        if let Some(said) = self.filter_by_class(records, next) {
+        if let Some(said) = self.filter_within(records, next, Reach::Class, Shows::Class) {
             return Asked {
                 said,
                 reach: Reach::Class,
             };
         }
-        if let Some(said) = self.filter_by_row(records, next) {
+        if let Some(said) = self.filter_within(records, next, Reach::Row, Shows::ClassAndRow) {
             return Asked {
                 said,
                 reach: Reach::Row,
@@ -158,7 +158,7 @@ impl Member {
                 reach: Reach::Here,
             };
         }
-        if let Some(said) = self.filter_by_node(records, next) {
+        if let Some(said) = self.filter_within(records, next, Reach::Node, Shows::ClassAndNode) {
             return Asked {
                 said,
                 reach: Reach::Node,
@@ -170,54 +170,24 @@ impl Member {
         }
     }
 
-    // What its filter says where it asks for the pod's record of version 3 alone, if it is to be
-    // tried whether it does.
-    fn filter_by_class(&mut self, records: &Records, next: Reach) -> Option<FilterVerdict>
-        ensures says { IfSome result (λ said. (told : Told) → LookAlike Shows.Class records.now told →
+    // What its filter says where it asks for no more than is shown, which lets that reach as far as
+    // this, if it may.
+    fn filter_within(
+        &mut self,
+        records: &Records,
+        next: Reach,
+        far: Reach,
+        shows: Shows,
+    ) -> Option<FilterVerdict>
+        ensures says { IfSome result (λ said. (told : Told) → LookAlike shows records.now told →
             FilterSays self.old.ready told said) }
         ensures stays { self.new ≡ record self.old { store = self.new.store } }
     {
-        if next != Reach::Class {
+        if !next.allows(far) {
             return None;
         }
-        let said = self.filter_shown(records, Shows::Class);
-        if said.is_none() {
-            self.filter_habit.narrow(Reach::Row);
-        }
-        said
-    }
-
-    // What its filter says where it asks for the records of version 3 alone, if it is to be tried
-    // whether it does.
-    fn filter_by_row(&mut self, records: &Records, next: Reach) -> Option<FilterVerdict>
-        ensures says { IfSome result (λ said. (told : Told) → LookAlike Shows.ClassAndRow records.now told →
-            FilterSays self.old.ready told said) }
-        ensures stays { self.new ≡ record self.old { store = self.new.store } }
-    {
-        if next == Reach::Node || next == Reach::Here {
-            return None;
-        }
-        let said = self.filter_shown(records, Shows::ClassAndRow);
-        if said.is_none() {
-            self.filter_habit.narrow(Reach::Node);
-        }
-        said
-    }
-
-    // What its filter says where it asks for no more of the pod than its record of version 3, if
-    // that is to be tried.
-    fn filter_by_node(&mut self, records: &Records, next: Reach) -> Option<FilterVerdict>
-        ensures says { IfSome result (λ said. (told : Told) → LookAlike Shows.ClassAndNode records.now told →
-            FilterSays self.old.ready told said) }
-        ensures stays { self.new ≡ record self.old { store = self.new.store } }
-    {
-        if next == Reach::Here {
-            return None;
-        }
-        let said = self.filter_shown(records, Shows::ClassAndNode);
-        if said.is_none() {
-            self.filter_habit.narrow(Reach::Here);
-        }
+        let said = self.filter_shown(records, shows);
+        self.filter_habit.note(said.is_some(), far);
         said
     }
 
@@ -235,7 +205,7 @@ impl Member {
             .call_shown(records, shows, Export::Filter, self.fuel)
         {
             Some(outcome) => {
-                count(&mut self.spent, &mut self.spent_once, outcome, shows);
+                self.spent.count(outcome, shows);
                 Some(filter_verdict(outcome))
             }
             None => None,
@@ -249,23 +219,13 @@ impl Member {
             FilterSays self.old.ready (record records.now { node = node }) said) }
         ensures stays { self.new ≡ record self.old { store = self.new.store } }
     {
-        if !self.instance.has(Export::Filter) {
-            return Some(FilterVerdict::Passes);
-        }
         if let Some(said) = self.filter.of(records) {
             return Some(said);
         }
         if self.filter.waits() {
             return None;
         }
-        let outcome = self
-            .instance
-            .call_without_node(records, Export::Filter, self.fuel);
-        count_once(&mut self.spent, &mut self.spent_once, outcome);
-        let said = match outcome {
-            Some(outcome) => Some(filter_verdict(outcome)),
-            None => None,
-        };
+        let said = self.filter_shown(records, Shows::ThisPod);
         self.filter.note(records, said);
         said
     }
@@ -280,7 +240,7 @@ impl Member {
             return FilterVerdict::Passes;
         }
         let outcome = self.instance.call(records, Export::Filter, self.fuel);
-        count(&mut self.spent, &mut self.spent_once, outcome, Shows::All);
+        self.spent.count(outcome, Shows::All);
         filter_verdict(outcome)
     }
 
@@ -292,13 +252,13 @@ impl Member {
         ensures stays { self.new ≡ record self.old { store = self.new.store } }
     {
         let next = self.score_habit.next();
-        if let Some(said) = self.score_by_class(records, next) {
+        if let Some(said) = self.score_within(records, next, Reach::Class, Shows::Class) {
             return Asked {
                 said,
                 reach: Reach::Class,
             };
         }
-        if let Some(said) = self.score_by_row(records, next) {
+        if let Some(said) = self.score_within(records, next, Reach::Row, Shows::ClassAndRow) {
             return Asked {
                 said,
                 reach: Reach::Row,
@@ -310,7 +270,7 @@ impl Member {
                 reach: Reach::Here,
             };
         }
-        if let Some(said) = self.score_by_node(records, next) {
+        if let Some(said) = self.score_within(records, next, Reach::Node, Shows::ClassAndNode) {
             return Asked {
                 said,
                 reach: Reach::Node,
@@ -322,57 +282,25 @@ impl Member {
         }
     }
 
-    // What its score says where it asks for the pod's record of version 3 alone, if it is to be
-    // tried whether it does.
-    fn score_by_class(&mut self, records: &Records, next: Reach) -> Option<ScoreVerdict>
-        ensures says { IfSome result (λ said. (told : Told) → LookAlike Shows.Class records.now told →
+    // What its score says where it asks for no more than is shown, which lets that reach as far as
+    // this, if it may.
+    fn score_within(
+        &mut self,
+        records: &Records,
+        next: Reach,
+        far: Reach,
+        shows: Shows,
+    ) -> Option<ScoreVerdict>
+        ensures says { IfSome result (λ said. (told : Told) → LookAlike shows records.now told →
             ScoreSays self.old.ready told said) }
         ensures within { IfSome result IsWithin }
         ensures stays { self.new ≡ record self.old { store = self.new.store } }
     {
-        if next != Reach::Class {
+        if !next.allows(far) {
             return None;
         }
-        let said = self.score_shown(records, Shows::Class);
-        if said.is_none() {
-            self.score_habit.narrow(Reach::Row);
-        }
-        said
-    }
-
-    // What its score says where it asks for the records of version 3 alone, if it is to be tried
-    // whether it does.
-    fn score_by_row(&mut self, records: &Records, next: Reach) -> Option<ScoreVerdict>
-        ensures says { IfSome result (λ said. (told : Told) → LookAlike Shows.ClassAndRow records.now told →
-            ScoreSays self.old.ready told said) }
-        ensures within { IfSome result IsWithin }
-        ensures stays { self.new ≡ record self.old { store = self.new.store } }
-    {
-        if next == Reach::Node || next == Reach::Here {
-            return None;
-        }
-        let said = self.score_shown(records, Shows::ClassAndRow);
-        if said.is_none() {
-            self.score_habit.narrow(Reach::Node);
-        }
-        said
-    }
-
-    // What its score says where it asks for no more of the pod than its record of version 3, if
-    // that is to be tried.
-    fn score_by_node(&mut self, records: &Records, next: Reach) -> Option<ScoreVerdict>
-        ensures says { IfSome result (λ said. (told : Told) → LookAlike Shows.ClassAndNode records.now told →
-            ScoreSays self.old.ready told said) }
-        ensures within { IfSome result IsWithin }
-        ensures stays { self.new ≡ record self.old { store = self.new.store } }
-    {
-        if next == Reach::Here {
-            return None;
-        }
-        let said = self.score_shown(records, Shows::ClassAndNode);
-        if said.is_none() {
-            self.score_habit.narrow(Reach::Here);
-        }
+        let said = self.score_shown(records, shows);
+        self.score_habit.note(said.is_some(), far);
         said
     }
 
@@ -391,7 +319,7 @@ impl Member {
             .call_shown(records, shows, Export::Score, self.fuel)
         {
             Some(outcome) => {
-                count(&mut self.spent, &mut self.spent_once, outcome, shows);
+                self.spent.count(outcome, shows);
                 Some(score_verdict(outcome))
             }
             None => None,
@@ -406,23 +334,13 @@ impl Member {
         ensures within { IfSome result IsWithin }
         ensures stays { self.new ≡ record self.old { store = self.new.store } }
     {
-        if !self.instance.has(Export::Score) {
-            return Some(ScoreVerdict::Good(0));
-        }
         if let Some(said) = self.score.of(records) {
             return Some(said);
         }
         if self.score.waits() {
             return None;
         }
-        let outcome = self
-            .instance
-            .call_without_node(records, Export::Score, self.fuel);
-        count_once(&mut self.spent, &mut self.spent_once, outcome);
-        let said = match outcome {
-            Some(outcome) => Some(score_verdict(outcome)),
-            None => None,
-        };
+        let said = self.score_shown(records, Shows::ThisPod);
         self.score.note(records, said);
         said
     }
@@ -438,7 +356,7 @@ impl Member {
             return ScoreVerdict::Good(0);
         }
         let outcome = self.instance.call(records, Export::Score, self.fuel);
-        count(&mut self.spent, &mut self.spent_once, outcome, Shows::All);
+        self.spent.count(outcome, Shows::All);
         score_verdict(outcome)
     }
 }

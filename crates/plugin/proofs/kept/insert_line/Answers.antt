@@ -1,6 +1,5 @@
-use Rattle.std.proofs.Common.{List, sym, subst}
+use Rattle.std.proofs.Common.{sym, subst}
 use Rattle.std.specs.List.{AllByRecursion}
-use Rattle.plugin.specs.declared.kept.Line.{Line}
 use Rattle.plugin.specs.inside.Kept.{LineHolds}
 use Rattle.plugin.proofs.KeptLemmas.{all_inserted}
 use Rattle.plugin.proofs.kept.insert_line.Goals as goal

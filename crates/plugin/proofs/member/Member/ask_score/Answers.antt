@@ -7,18 +7,18 @@ use Rattle.plugin.proofs.member.Member.ask_score.Goals as goal
 pub returns-in-Some-clause-says : goal.returns-in-Some-clause-says
 returns-in-Some-clause-says c = λ told reaches. rw (sym c.self.view_is) (c.in-Some.ensures.says told (by_class c.args.records.now told reaches))
 
-pub returns-in-Some-score_by_row-clause-says : goal.returns-in-Some-score_by_row-clause-says
-returns-in-Some-score_by_row-clause-says c = λ told reaches.
-    let one = ap (λ (i : InstanceState). i.ready) c.score_by_class.ensures.stays ∙ ap (λ (i : InstanceState). i.ready) c.self.view_is in
-    subst (λ (p : Ready). ScoreSays p told c.in-Some-score_by_row.said) one (c.in-Some-score_by_row.ensures.says told (by_row c.args.records.now told reaches))
+pub returns-in-Some-score_within-clause-says : goal.returns-in-Some-score_within-clause-says
+returns-in-Some-score_within-clause-says c = λ told reaches.
+    let one = ap (λ (i : InstanceState). i.ready) c.score_within.ensures.stays ∙ ap (λ (i : InstanceState). i.ready) c.self.view_is in
+    subst (λ (p : Ready). ScoreSays p told c.in-Some-score_within.said) one (c.in-Some-score_within.ensures.says told (by_row c.args.records.now told reaches))
 
 pub returns-in-Some-score_of_all-clause-says : goal.returns-in-Some-score_of_all-clause-says
 returns-in-Some-score_of_all-clause-says c = λ told same.
-    let one = ap (λ (i : InstanceState). i.ready) c.score_by_row.ensures.stays ∙ ap (λ (i : InstanceState). i.ready) c.score_by_class.ensures.stays ∙ ap (λ (i : InstanceState). i.ready) c.self.view_is in
+    let one = ap (λ (i : InstanceState). i.ready) c.score_within-2.ensures.stays ∙ ap (λ (i : InstanceState). i.ready) c.score_within.ensures.stays ∙ ap (λ (i : InstanceState). i.ready) c.self.view_is in
     subst (λ (r : Records). ScoreSays c.args.self.now.ready r c.in-Some-score_of_all.said) (sym same)
     (subst (λ (p : Ready). ScoreSays p c.args.records.now c.in-Some-score_of_all.said) one (c.in-Some-score_of_all.ensures.says c.args.records.now.node))
 
-pub returns-in-Some-score_by_node-clause-says : goal.returns-in-Some-score_by_node-clause-says
-returns-in-Some-score_by_node-clause-says c = λ told reaches.
-    let one = ap (λ (i : InstanceState). i.ready) c.score_of_all.ensures.stays ∙ ap (λ (i : InstanceState). i.ready) c.score_by_row.ensures.stays ∙ ap (λ (i : InstanceState). i.ready) c.score_by_class.ensures.stays ∙ ap (λ (i : InstanceState). i.ready) c.self.view_is in
-    subst (λ (p : Ready). ScoreSays p told c.in-Some-score_by_node.said) one (c.in-Some-score_by_node.ensures.says told (by_node c.args.records.now told reaches))
+pub returns-in-Some-score_within-2-clause-says : goal.returns-in-Some-score_within-2-clause-says
+returns-in-Some-score_within-2-clause-says c = λ told reaches.
+    let one = ap (λ (i : InstanceState). i.ready) c.score_of_all.ensures.stays ∙ ap (λ (i : InstanceState). i.ready) c.score_within-2.ensures.stays ∙ ap (λ (i : InstanceState). i.ready) c.score_within.ensures.stays ∙ ap (λ (i : InstanceState). i.ready) c.self.view_is in
+    subst (λ (p : Ready). ScoreSays p told c.in-Some-score_within-2.said) one (c.in-Some-score_within-2.ensures.says told (by_node c.args.records.now told reaches))

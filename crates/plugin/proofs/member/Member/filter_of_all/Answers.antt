@@ -1,13 +1,8 @@
-use Rattle.std.proofs.Common.{IfSome, sym, subst}
-use Rattle.whost.specs.declared.records.Versions.{Versions}
-use Rattle.wmach.specs.declared.export.Export.TheVariants as export
-use Rattle.rules.specs.declared.verdict.FilterVerdict.TheVariants as filter
-use Rattle.plugin.specs.Verdict.{filter_said}
-use Rattle.plugin.specs.Kit.{Ready, FilterSays, ScoreSays}
+use Rattle.std.proofs.Common.{sym, subst, ap, ◌∙◌}
+use Rattle.plugin.specs.Kit.{Ready, InstanceState, FilterSays}
 use Rattle.plugin.specs.inside.Said.{SaidOfAll}
 use Rattle.plugin.specs.inside.Member.{ready_of}
-use Rattle.plugin.proofs.SaidLemmas.{said_of_each, noted_of_all, of_call, same_plugin}
-use Rattle.plugin.proofs.member.Member.filter_of_all.Goals.{in-Some-outcome, in-None}
+use Rattle.plugin.proofs.SaidLemmas.{said_of_each, noted_of_all, of_each_node}
 use Rattle.plugin.proofs.member.Member.filter_of_all.Goals as goal
 
 pub returns-in-Some-clause-says : goal.returns-in-Some-clause-says
@@ -15,25 +10,18 @@ returns-in-Some-clause-says c =
     rw (sym c.self.view_is) (said_of_each (FilterSays (ready_of c.self.inside)) c.self.inside.filter.said c.self.inside.filter.first.items c.self.inside.filter.second.items c.self.inside.filter.third.items c.in-Some.said c.args.records.now
     c.self.invariant.filter c.in-Some.ensures.said c.in-Some.ensures.first c.in-Some.ensures.second c.in-Some.ensures.third)
 
--- what is said now is said of each node
-says : (c : goal.After-note) → IfSome c.match-outcome.said (λ said. (node : Versions) → FilterSays (ready_of c.self.inside) (record c.args.records.now { node = node }) said)
-says c =
-    elim c.match-outcome.branch [
-      | in-Some-outcome w ↦ rw w.said-is (of_call c.self.inside.weight c.self.inside.fuel c.self.inside.instance c.call_without_node-outcome.new.self export.Filter c.args.records.now
-          w.in-Some-outcome.outcome (filter.Passes) filter_said w.filter_verdict.result w.in-Some-outcome.ensures.calls w.filter_verdict.ensures)
-      | in-None w ↦ rw w.said-is tt
-    ]
-
-pub invariant_of-self-2 : goal.invariant_of-self-2
-invariant_of-self-2 c =
-    let same = same_plugin c.self.inside.weight c.self.inside.fuel c.self.inside.instance c.call_without_node-outcome.new.self c.call_without_node-outcome.ensures.stays in
+pub invariant_of-self-3 : goal.invariant_of-self-3
+invariant_of-self-3 c =
+    let same = ap (λ (i : InstanceState). i.ready) (sym (c.self-2.view_is ∙ c.filter_shown-said.ensures.stays)) in
     record {
       filter = subst (λ (p : Ready). SaidOfAll (FilterSays p) c.note.new.self.said c.note.new.self.first.items c.note.new.self.second.items c.note.new.self.third.items) same
-          (noted_of_all (FilterSays (ready_of c.self.inside)) c.match-outcome.said c.note.new.self.said c.note.new.self.first.items c.note.new.self.second.items c.note.new.self.third.items c.args.records.now
-          c.note.ensures.said c.note.ensures.first c.note.ensures.second c.note.ensures.third (says c));
-      score = subst (λ (p : Ready). SaidOfAll (ScoreSays p) c.self.inside.score.said c.self.inside.score.first.items c.self.inside.score.second.items c.self.inside.score.third.items) same c.self.invariant.score;
-      within = c.self.invariant.within;
+          (noted_of_all (FilterSays (ready_of c.self.inside)) c.filter_shown-said.result c.note.new.self.said c.note.new.self.first.items c.note.new.self.second.items c.note.new.self.third.items c.args.records.now
+          c.note.ensures.said c.note.ensures.first c.note.ensures.second c.note.ensures.third
+          (of_each_node (FilterSays (ready_of c.self.inside)) c.filter_shown-said.result c.args.records.now c.filter_shown-said.ensures.says));
+      score = c.self-2.invariant.score;
+      within = c.self-2.invariant.within;
     }
 
 pub returns-clause-says : goal.returns-clause-says
-returns-clause-says c = rw (sym c.self.view_is) (says c)
+returns-clause-says c =
+    rw (sym c.self.view_is) (of_each_node (FilterSays (ready_of c.self.inside)) c.filter_shown-said.result c.args.records.now c.filter_shown-said.ensures.says)
