@@ -25,7 +25,6 @@ use wmach::Export;
 /// One instance of each plugin, in the order in which they are configured. It takes all its room
 /// when it is made. A thread needs a kit of its own, which can be moved to another thread; all kits
 /// of the same plugins say the same.
-#[derive(Drop)]
 pub struct Kit {
     alloc: Global,
     members: Vec<Member>,
@@ -46,6 +45,17 @@ impl Model for Kit {
     ghost view = { λ kit. kit.members.items };
 
     ghost invariant = { λ kit. AreInstances kit.members.items × (0 < length kit.members.items → IsSome kit.told) };
+}
+
+// By hand, so that who drops a kit calls this, and its parts' drops are proved here alone.
+impl Drop for Kit {
+    fn drop(self) {
+        let Self {
+            alloc: _,
+            members: _members,
+            told: _told,
+        } = self;
+    }
 }
 
 impl Kit {

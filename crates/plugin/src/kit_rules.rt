@@ -14,7 +14,6 @@ use std::marker::Model;
 /// What a set of rules owes is that it answers as before, whatever it was asked. So contracts see
 /// of the kit its plugins alone, each with the image from which its calls begin: what an instance's
 /// store is between two calls, no call sees. Nor do they see what is kept of what plugins said.
-#[derive(Drop)]
 pub struct KitRules {
     kit: Kit,
     kept: Kept,
@@ -36,6 +35,17 @@ impl Model for KitRules {
     ghost use Rattle.plugin.specs.inside.Kept.{KeptHolds};
 
     ghost invariant = { λ rules. KeptHolds (ready_parts rules.kit) rules.kept };
+}
+
+// By hand, so that who drops it calls this, and its parts' drops are proved here alone.
+impl Drop for KitRules {
+    fn drop(self) {
+        let Self {
+            kit: _kit,
+            kept: _kept,
+            asked: _,
+        } = self;
+    }
 }
 
 impl KitRules {

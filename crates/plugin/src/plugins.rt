@@ -49,7 +49,6 @@ pub struct Entry {
 }
 
 /// The plugins of a site, at most 16, in the order in which they were added. No two have one name.
-#[derive(Drop)]
 pub struct Plugins {
     entries: IndexMap<Name, Entry>,
 }
@@ -68,6 +67,14 @@ impl Model for Plugins {
     ghost view = { plugins_of };
 
     ghost invariant = { AreEntries };
+}
+
+// By hand, so that who drops them calls this, and their parts' drops are proved here alone.
+impl Drop for Plugins {
+    fn drop(self) {
+        let Self { entries } = self;
+        drop(entries);
+    }
 }
 
 impl Plugins {
