@@ -11,11 +11,21 @@ use quant::SharedPod;
 use std::marker::{Brand, Model, PhantomData};
 
 /// A pod, the nodes among which it is to be placed, and into how many pieces they are cut.
-#[derive(Drop)]
 pub struct Asked {
     pub snapshot: Snapshot,
     pub pod: SharedPod,
     pub pieces: usize,
+}
+
+// By hand, so that who drops one calls this, and its parts' drops are proved here alone.
+impl Drop for Asked {
+    fn drop(self) {
+        let Self {
+            snapshot: _snapshot,
+            pod: _pod,
+            pieces: _,
+        } = self;
+    }
 }
 
 /// A step adds what is asked.
@@ -50,12 +60,21 @@ impl Site for Brand {
 }
 
 /// An empty history, before it has a name.
-#[derive(Drop)]
 pub struct Blank {
     head: Word<Asked, u64, HistoryRule>,
     seen: Seen<Asked, u64, HistoryRule>,
     pub ghost empty: { seen.log ≡ [] },
     pub ghost head_is: { head ≡ head_of seen.book },
+}
+
+// By hand, as what is asked.
+impl Drop for Blank {
+    fn drop(self) {
+        let Self {
+            head: _head,
+            seen: _seen,
+        } = self;
+    }
 }
 
 impl Blank {
@@ -83,7 +102,6 @@ impl Blank {
 }
 
 /// All that a pool was asked, and how much that is.
-#[derive(Drop)]
 pub struct History<J: Site> {
     head: Word<Asked, u64, HistoryRule>,
     seen: Seen<Asked, u64, HistoryRule>,
@@ -94,14 +112,37 @@ pub struct History<J: Site> {
     ghost counted: { count ≡ length seen.log },
 }
 
+// By hand, as what is asked.
+impl<J: Site> Drop for History<J> {
+    fn drop(self) {
+        let Self {
+            head: _head,
+            seen: _seen,
+            count: _,
+            of: _,
+        } = self;
+    }
+}
+
 /// What a pool was asked, with its number among all that it was asked: no two have one number.
 /// Contracts see what was asked.
-#[derive(Drop)]
 pub struct Order<J: Site> {
     asked: Asked,
     number: u64,
     seen: Seen<Asked, u64, HistoryRule>,
     of: PhantomData<J>,
+}
+
+// By hand, as what is asked.
+impl<J: Site> Drop for Order<J> {
+    fn drop(self) {
+        let Self {
+            asked: _asked,
+            number: _,
+            seen: _seen,
+            of: _,
+        } = self;
+    }
 }
 
 impl<J: Site> Model for Order<J> {
