@@ -106,7 +106,22 @@ where
         ensures room { OnOk result (length snapshot.now ≤ self.new.room) }
         ensures kept { self.old.room ≤ self.new.room }
     {
-        self.decide_among(rt, snapshot.rows(), pod, gate)
+        let rows = snapshot.rows();
+        self.verdicts.resize(rows.len(), UNJUDGED)?;
+        let work = Work {
+            rows,
+            pod,
+            gate,
+            pieces: self.kits.len(),
+        };
+        judge_pieces(
+            rt,
+            &work,
+            0,
+            self.kits.as_mut_slice(),
+            self.verdicts.as_mut_slice(),
+        );
+        Ok(decide(rows, self.verdicts.as_slice()))
     }
 
     /// What the rules alone say of each node, for a pod, or their filters alone. The first kit says
@@ -130,62 +145,6 @@ where
             rows,
             pod,
             filters_alone,
-            self.kits.as_mut_slice(),
-            self.verdicts.as_mut_slice(),
-        );
-        Ok(())
-    }
-
-    // The decision among these nodes.
-    fn decide_among<R: Threads + Sync, G: Gate + Sync>(
-        &mut self,
-        rt: &R,
-        rows: &[Row],
-        pod: &Pod,
-        gate: &G,
-    ) -> Result<Decision, NoMemory>
-        ensures chosen { IfOk result (λ decision. All (λ kit. Choice (K.answers kit) (map shown rows.now) pod.now
-            decision) self.old.kits) }
-        ensures judged { OnOk result (All (λ kit. AreVerdicts (K.answers kit) pod.now (map shown rows.now)
-            self.new.verdicts) self.old.kits) }
-        ensures some { 0 < length self.old.kits }
-        ensures kits { self.new.kits ≡ self.old.kits }
-        ensures no_memory { OnErr result (self.old.room < length rows.now) }
-        ensures room { OnOk result (length rows.now ≤ self.new.room) }
-        ensures kept { self.old.room ≤ self.new.room }
-    {
-        self.judge_among(rt, rows, pod, gate)?;
-        Ok(decide(rows, self.verdicts.as_slice()))
-    }
-
-    // Makes the verdicts on these nodes.
-    fn judge_among<R: Threads + Sync, G: Gate + Sync>(
-        &mut self,
-        rt: &R,
-        rows: &[Row],
-        pod: &Pod,
-        gate: &G,
-    ) -> Result<(), NoMemory>
-        ensures judged { OnOk result (All (λ kit. AreVerdicts (K.answers kit) pod.now (map shown rows.now)
-            self.new.verdicts) self.old.kits) }
-        ensures all { OnOk result (length self.new.verdicts ≡ length rows.now) }
-        ensures some { 0 < length self.old.kits }
-        ensures kits { self.new.kits ≡ self.old.kits }
-        ensures no_memory { OnErr result (self.old.room < length rows.now) }
-        ensures room { OnOk result (length rows.now ≤ self.new.room) }
-        ensures kept { self.old.room ≤ self.new.room }
-    {
-        self.verdicts.resize(rows.len(), UNJUDGED)?;
-        let work = Work {
-            rows,
-            pod,
-            gate,
-            pieces: self.kits.len(),
-        };
-        judge_pieces(
-            rt,
-            &work,
-            0,
             self.kits.as_mut_slice(),
             self.verdicts.as_mut_slice(),
         );

@@ -19,13 +19,24 @@ use std::thread::Threads;
 
 /// A kit, where it isn't under way, with the room for its verdicts and the way to its worker, if
 /// there is one.
-#[derive(Drop)]
 pub struct Helper<J: Site, K: Rules + Drop> {
     pub hand: Option<Hand<J, K>>,
     pub kit: Option<K>,
     room: Vec<Verdict>,
     // Whether a piece is under way.
     is_out: bool,
+}
+
+// By hand, so that who drops one calls this, and its parts' drops are proved here alone.
+impl<J: Site, K: Rules + Drop> Drop for Helper<J, K> {
+    fn drop(self) {
+        let Self {
+            hand: _hand,
+            kit: _kit,
+            room: _room,
+            is_out: _,
+        } = self;
+    }
 }
 
 impl<J: Site, K: Rules + Drop> Model for Helper<J, K> {
@@ -83,12 +94,12 @@ impl<J: Site, K: Rules + Drop> Helper<J, K> {
         let Some(hand) = self.hand.as_mut() else {
             return;
         };
-        let Ok(order) = order.clone() else {
-            return;
-        };
         if self.room.resize(places, UNJUDGED).is_err() {
             return;
         }
+        let Ok(order) = order.clone() else {
+            return;
+        };
         let Some(kit) = self.kit.take() else {
             return;
         };

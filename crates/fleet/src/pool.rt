@@ -26,7 +26,6 @@ use std::sync::{Arc, Wait};
 use std::thread::Threads;
 
 /// A kit that stays with the caller, and others with a worker each, which stay until the pool ends.
-#[derive(Drop)]
 pub struct Pool<J: Site, K: Rules + Drop, G: Drop> {
     alloc: Global,
     gate: Arc<G>,
@@ -37,6 +36,21 @@ pub struct Pool<J: Site, K: Rules + Drop, G: Drop> {
     verdicts: Vec<Verdict>,
     // What the last decision cost, once there was one.
     cost: Option<Cost>,
+}
+
+// By hand, so that who drops a pool calls this, and its parts' drops are proved here alone.
+impl<J: Site, K: Rules + Drop, G: Drop> Drop for Pool<J, K, G> {
+    fn drop(self) {
+        let Self {
+            alloc: _,
+            gate: _gate,
+            home: _home,
+            helpers: _helpers,
+            history: _history,
+            verdicts: _verdicts,
+            cost: _,
+        } = self;
+    }
 }
 
 impl<J: Site, K: Rules + Drop, G: Drop> Model for Pool<J, K, G> {

@@ -10,3 +10,9 @@ returns-clause-chosen g c =
     (subst (λ pod. AreVerdicts rules pod c.args.snapshot.now c.judge.new.verdicts) c.deref.ensures
     (subst (λ ns. AreVerdicts rules c.deref.result.now ns c.judge.new.verdicts) c.rows-rows.ensures c.judge.ensures.are))
     c.decide.ensures
+
+pub returns-clause-judged : goal.returns-clause-judged
+returns-clause-judged g c =
+    let rules = g.K.Rules.answers c.args.home.now in
+    subst (λ pod. AreVerdicts rules pod c.args.snapshot.now c.judge.new.verdicts) c.deref.ensures
+    (subst (λ ns. AreVerdicts rules c.deref.result.now ns c.judge.new.verdicts) c.rows-rows.ensures c.judge.ensures.are)
