@@ -18,6 +18,27 @@ use desk::{Desk, Naming, NoMemory, Pass};
 use std::sync::Wait;
 use std::thread::Threads;
 
+// Where a cycle came to a place, a job to bind the pod is sent. It tells whether there was no pod.
+fn send_job<R: Wait>(rt: &R, jobs: &Sender<Job>, came: Cycled) -> Result<bool, NoMemory>
+    ensures { IfOk result (λ idle. IsTrue idle → came ≡ cycled.Idle) }
+{
+    match came {
+        Cycled::Idle => Ok(true),
+        Cycled::Assumed {
+            uid,
+            node,
+            total: _,
+            ticket,
+        } => {
+            if jobs.send(rt, Job { uid, node, ticket }).is_err() {
+                return Err(NoMemory);
+            }
+            Ok(false)
+        }
+        _ => Ok(false),
+    }
+}
+
 // One cycle. Where it came to a place, a job to bind the pod is sent. It tells whether there was no
 // pod.
 fn turn<J: Naming, R: Wait + Threads + Sync, D: Decider>(
@@ -34,23 +55,10 @@ fn turn<J: Naming, R: Wait + Threads + Sync, D: Decider>(
     ensures number { pass.new.caller.number ≡ pass.old.caller.number }
     ensures kits { D.kits decider.new ≡ D.kits decider.old }
 {
-    match cycle(desk, rt, pass, decider, false) {
-        Err(_) => Err(NoMemory),
-        Ok(Cycled::Idle) => Ok(true),
-        Ok(
-            Cycled::Assumed {
-                uid,
-                node,
-                total: _,
-                ticket,
-            },
-        ) => {
-            let sent = jobs.send(rt, Job { uid, node, ticket });
-            sent.map_err(|_| NoMemory)?;
-            Ok(false)
-        }
-        Ok(_) => Ok(false),
-    }
+    let Ok(came) = cycle(desk, rt, pass, decider, false) else {
+        return Err(NoMemory);
+    };
+    send_job(rt, jobs, came)
 }
 
 // Makes cycles while the watch tells, and ends where both feeders have ended and then no pod waits.
@@ -70,7 +78,9 @@ fn cycle_beside<J: Naming, R: Wait + Threads + Sync, D: Decider>(
 {
     for _ in rt.forever() {
         let heard = bell.heard(rt);
-        let idle = turn(rt, desk, jobs, pass, decider)?;
+        let Ok(idle) = turn(rt, desk, jobs, pass, decider) else {
+            return Err(NoMemory);
+        };
         if idle && heard.is_last() {
             return Ok(());
         }

@@ -9,12 +9,22 @@ use std::alloc::Global;
 use streams::RunFault;
 
 /// A pass of the desk, and what its thread works with.
-#[derive(Drop)]
 pub struct Worker<J: Naming, T: Drop> {
     pub pass: Pass<J>,
     pub tool: T,
     /// Whether memory was wanting, which ended the work.
     pub failed: bool,
+}
+
+// By hand, so that who drops a worker calls this, and its parts' drops are proved here alone.
+impl<J: Naming, T: Drop> Drop for Worker<J, T> {
+    fn drop(self) {
+        let Self {
+            pass: _pass,
+            tool: _tool,
+            failed: _,
+        } = self;
+    }
 }
 
 /// A worker for each tool, with a pass that has made no call and seen nothing. The passes are
