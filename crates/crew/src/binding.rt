@@ -11,21 +11,6 @@ use crossbeam_channel::Receiver;
 use desk::{Desk, Naming, Pass};
 use std::sync::Wait;
 
-// Does a job, and tells whether there was memory to report it.
-fn bind_one<J: Naming, R: Wait>(
-    rt: &R,
-    desk: &Desk<J>,
-    pass: &mut Pass<J>,
-    binder: &mut Box<dyn Binder + Send>,
-    job: &Job,
-) -> bool
-    requires { IsPassOf pass.old desk.now }
-    ensures number { pass.new.caller.number ≡ pass.old.caller.number }
-    ensures reports { (steps : List Step) × Makes pass.old steps pass.new × AllByRecursion IsReport steps }
-{
-    bind_job(rt, desk, pass, binder, job).is_ok()
-}
-
 /// What does jobs: a binder. Who starts the threads in which it works needs to know no more of it.
 pub trait Reporting: Drop {
     /// Does a job, and tells whether there was memory to report it.
@@ -49,7 +34,7 @@ impl Reporting for Box<dyn Binder + Send> {
         pass: &mut Pass<J>,
         job: &Job,
     ) -> bool {
-        bind_one(rt, desk, pass, self, job)
+        bind_job(rt, desk, pass, self, job).is_ok()
     }
 }
 

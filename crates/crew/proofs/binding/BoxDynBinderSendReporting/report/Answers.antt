@@ -1,5 +1,5 @@
 use Rattle.crew.proofs.Answering.{reports}
-use Rattle.crew.proofs.binding.bind_one.Goals as goal
+use Rattle.crew.proofs.binding.BoxDynBinderSendReporting.report.Goals as goal
 
 -- it reports, or does nothing
 pub returns-clause-reports : goal.returns-clause-reports
