@@ -1,3 +1,4 @@
 pub mod Alike
 pub mod Collecting
+pub mod Kits
 pub mod Ruled

@@ -15,7 +15,7 @@ use Rattle.serving.specs.Answer.{IsAnswer, IsDone}
 use Rattle.site.specs.Run.{TellsFault, told_of}
 use Rattle.site.proofs.Ends.{not_begun, told}
 use Rattle.site.proofs.Quiet.{no_memory_told}
-use Rattle.storm_site.proofs.StormEnds.{storm_not_begun}
+use Rattle.serving.proofs.StormEnds.{storm_not_begun}
 use Rattle.translator.proofs.Translated.{nothing_translated}
 
 module _ (Unkeyed : Type 0) (files : FilesUse) (source out err : DeviceUse) (ended : ℕ) where

@@ -13,7 +13,7 @@ use Rattle.site.specs.Planned.{FilesUse, IsPlannedRun}
 use Rattle.site.specs.Run.{TellsFailures, TellsFault, told_of}
 use Rattle.site.specs.Site.{AreFromFiles, UnreadPlugin}
 use Rattle.serving.specs.Live.{IsPlannedLive, read_for}
-use Rattle.storm_site.specs.Storm.{IsPlannedStorm}
+use Rattle.serving.specs.Storm.{IsPlannedStorm}
 use Rattle.site.specs.Version.{TellsVersion}
 
 -- a check of the module in this file ended with this status, and the source is as it was

@@ -1,2 +1,4 @@
 pub mod Answer
 pub mod Live
+pub mod Storm
+pub mod inside

@@ -5,6 +5,7 @@ ghost use Rattle.site.specs.Planned.{files_of};
 ghost use Rattle.serving.specs.Answer.{IsAnswer};
 
 use crate::live_site::live_plan;
+use crate::storm_site::storm_plan;
 use command::{WordFault, Words, misuse_of, words};
 use fault_line::{Fault, report};
 use site::{Files, check_file, serve_plan, tell_version};
@@ -13,7 +14,6 @@ use std::convert::AsStr;
 use std::hash::RandomState;
 use std::sync::Wait;
 use std::thread::Threads;
-use storm_site::storm_plan;
 use streams::{Sink, Source};
 use translator::serve_translation;
 

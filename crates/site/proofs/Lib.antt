@@ -2,7 +2,6 @@ pub mod Agreeing
 pub mod Decisions
 pub mod Ends
 pub mod Fronts
-pub mod Kits
 pub mod Quiet
 pub mod SameSite
 pub mod SiteOutput

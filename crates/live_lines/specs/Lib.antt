@@ -1,4 +1,0 @@
-pub mod Field
-pub mod Order
-pub mod Meaning
-pub mod inside

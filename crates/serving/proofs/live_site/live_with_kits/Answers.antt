@@ -1,5 +1,0 @@
-use Rattle.site.proofs.Kits.{first_speaks}
-use Rattle.serving.proofs.live_site.live_with_kits.Goals as goal
-
-pub live_in-requires-clause-first : goal.live_in-requires-clause-first
-live_in-requires-clause-first g c κs within = first_speaks _

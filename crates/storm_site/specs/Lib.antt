@@ -1,2 +1,0 @@
-pub mod Storm
-pub mod inside
