@@ -52,7 +52,9 @@ impl<K: Rules + Drop> Decider for OneKit<K> {
             return Ok(choose_alone(&snapshot, pod, &self.kit));
         }
         let rows = snapshot.rows();
-        self.verdicts.resize(rows.len(), UNJUDGED)?;
+        let Ok(()) = self.verdicts.resize(rows.len(), UNJUDGED) else {
+            return Err(NoMemory);
+        };
         judge(rows, pod, &mut self.kit, self.verdicts.as_mut_slice());
         Ok(decide(rows, self.verdicts.as_slice()))
     }
@@ -64,7 +66,9 @@ impl<K: Rules + Drop> Decider for OneKit<K> {
         filters_alone: bool,
     ) -> Result<(), NoMemory> {
         let rows = snapshot.rows();
-        self.verdicts.resize(rows.len(), UNJUDGED)?;
+        let Ok(()) = self.verdicts.resize(rows.len(), UNJUDGED) else {
+            return Err(NoMemory);
+        };
         rule_on(
             rows,
             pod,

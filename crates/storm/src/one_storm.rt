@@ -65,7 +65,9 @@ fn hand_out<J: Naming, D: Decider + Drop>(
     ensures faults { IfErr result (λ e. (e ≡ RunFault.NoMemory) ⊎ (e ≡ RunFault.NoPlace)) }
 {
     let mut both = Vec::new(alloc);
-    both.resize(FEEDERS, ())?;
+    let Ok(()) = both.resize(FEEDERS, ()) else {
+        return Err(RunFault::NoMemory);
+    };
     let feeders = enlist(alloc, desk, both)?;
     let cyclers = enlist(alloc, desk, deciders)?;
     let reporters = enlist(alloc, desk, binders)?;
@@ -92,7 +94,7 @@ fn work_and_dump<
     cyclers: &mut [Worker<J, D>],
     reporters: &mut [Worker<J, Box<dyn Binder + Send>>],
     clerk: &mut Pass<J>,
-) -> Result<(Counts, Snapshot), RunFault>
+) -> Result<(Counts, Snapshot), NoMemory>
     requires timely { All IsTimely steps.now }
     requires some { 0 < length cyclers.old }
     requires some_feeder { 0 < length feeders.old }
@@ -100,13 +102,14 @@ fn work_and_dump<
     requires cyclers { ArePassesOf desk.now cyclers.old }
     requires reporters { ArePassesOf desk.now reporters.old }
     requires clerk { IsPassOf clerk.old desk.now }
-    ensures worked { IfOk result (λ dump. IsWorked D.Kit.answers D.kits desk.now steps.now clerk.old feeders.old
+    ensures { IfOk result (λ dump. IsWorked D.Kit.answers D.kits desk.now steps.now clerk.old feeders.old
         cyclers.old reporters.old dump.0 dump.1 clerk.new) }
-    ensures faults { IfErr result (λ e. e ≡ RunFault.NoMemory) }
 {
     {
         // The jobs and the bell are let go before the dump.
-        let (sender, jobs) = unbounded(alloc)?;
+        let Ok((sender, jobs)) = unbounded(alloc) else {
+            return Err(NoMemory);
+        };
         let bell = Bell::new();
         let stage = Stage {
             desk,
@@ -116,10 +119,9 @@ fn work_and_dump<
         work(&stage, rt, &jobs, sender, feeders, cyclers, reporters);
     }
     if !all_done(feeders) || !all_done(cyclers) || !all_done(reporters) {
-        return Err(RunFault::NoMemory);
+        return Err(NoMemory);
     }
-    let dump = take_dump(rt, desk, clerk, feeders, cyclers, reporters)?;
-    Ok(dump)
+    take_dump(rt, desk, clerk, feeders, cyclers, reporters)
 }
 
 // A storm of these steps on a desk of which no pass was handed out. It gives the pass that took the
@@ -145,7 +147,7 @@ fn storm_to_dump<
     ensures faults { IfErr result (λ e. (e ≡ RunFault.NoMemory) ⊎ (e ≡ RunFault.NoPlace)) }
 {
     let mut hands = hand_out(alloc, desk, deciders, binders)?;
-    let (counts, shown) = work_and_dump(
+    let Ok((counts, shown)) = work_and_dump(
         rt,
         alloc,
         desk,
@@ -154,7 +156,9 @@ fn storm_to_dump<
         hands.cyclers.as_mut_slice(),
         hands.reporters.as_mut_slice(),
         &mut hands.clerk,
-    )?;
+    ) else {
+        return Err(RunFault::NoMemory);
+    };
     Ok((hands.clerk, counts, shown))
 }
 
@@ -177,59 +181,26 @@ fn text_of(
     text.build()
 }
 
-// Makes the text of a storm whole, and writes it.
-fn tell<W: Sink>(
-    alloc: Global,
-    shown: &Snapshot,
-    counts: Counts,
-    is_right: bool,
-    sink: &mut W,
-) -> Result<(), RunFault>
-    requires { W.failure_count sink.old < 10 ^ 18 }
-    ensures wrote { OnOk result (Appends (W.written sink.old) (W.written sink.new)
-        (storm_text shown.now counts is_right)) }
-    ensures front { result ≡ Err RunFault.Write → AppendsFront (W.written sink.old) (W.written sink.new)
-        (storm_text shown.now counts is_right) }
-    ensures quiet { OnErr result (result ≢ Err RunFault.Write → sink.new ≡ sink.old) }
-    ensures faults { IfErr result (λ e. (e ≡ RunFault.NoMemory) ⊎ (e ≡ RunFault.Write)) }
-    ensures write { result ≡ Err RunFault.Write → W.failure_count sink.old < W.failure_count sink.new }
-    ensures write_told { result ≢ Err RunFault.Write → W.failure_count sink.new ≡ W.failure_count sink.old }
-{
-    let text = text_of(alloc, shown, counts, is_right)?;
-    if write_all(sink, &text).is_err() {
-        return Err(RunFault::Write);
-    }
-    Ok(())
-}
-
-// Audits what a dump shows by the book of the desk, writes both, and answers what the audit said.
-fn audit_and_tell<R: Threads + Sync, W: Sink>(
+// Audits what a dump shows by the book of a desk: what the audit says, and what a storm writes then.
+fn audited_text<R: Threads + Sync>(
     rt: &R,
     alloc: Global,
     shown: &Snapshot,
     counts: Counts,
     book: &Book,
-    sink: &mut W,
-) -> Result<bool, RunFault>
-    requires { W.failure_count sink.old < 10 ^ 18 }
-    ensures says { IfOk result (λ answer. IsTrue answer ↔ ShowsSums shown.now book.now.places) }
-    ensures wrote { IfOk result (λ answer. Appends (W.written sink.old) (W.written sink.new)
-        (storm_text shown.now counts answer)) }
-    ensures front { result ≡ Err RunFault.Write → (answer : Bool)
-        × (IsTrue answer ↔ ShowsSums shown.now book.now.places)
-        × AppendsFront (W.written sink.old) (W.written sink.new) (storm_text shown.now counts answer) }
-    ensures quiet { OnErr result (result ≢ Err RunFault.Write → sink.new ≡ sink.old) }
-    ensures faults { IfErr result (λ e. (e ≡ RunFault.NoMemory) ⊎ (e ≡ RunFault.Write)) }
-    ensures write { result ≡ Err RunFault.Write → W.failure_count sink.old < W.failure_count sink.new }
-    ensures write_told { result ≢ Err RunFault.Write → W.failure_count sink.new ≡ W.failure_count sink.old }
+) -> Result<(bool, Vec<u8>), NoMemory>
+    ensures says { IfOk result (λ told. IsTrue told.0 ↔ ShowsSums shown.now book.now.places) }
+    ensures text { IfOk result (λ told. told.1.items ≡ storm_text shown.now counts told.0) }
 {
-    let is_right = audit(rt, alloc, shown, book)?;
-    tell(alloc, shown, counts, is_right, sink)?;
-    Ok(is_right)
+    let Ok(is_right) = audit(rt, alloc, shown, book) else {
+        return Err(NoMemory);
+    };
+    let text = text_of(alloc, shown, counts, is_right)?;
+    Ok((is_right, text))
 }
 
-// Closes the desk of a storm, and audits and writes what was dumped of it. The book is let go here,
-// where nothing else is owned.
+// Closes the desk of a storm, audits and writes what was dumped of it, and answers what the audit
+// said. The book is let go before anything is written.
 fn close_and_tell<J: Naming, R: Threads + Wait + Sync, W: Sink>(
     rt: &R,
     alloc: Global,
@@ -245,7 +216,14 @@ fn close_and_tell<J: Naming, R: Threads + Wait + Sync, W: Sink>(
         (use_of W.written W.failure_count sink.old sink.new) result }
 {
     let book = desk.close(rt, clerk);
-    audit_and_tell(rt, alloc, shown, counts, &book, sink)
+    let Ok((is_right, text)) = audited_text(rt, alloc, shown, counts, &book) else {
+        return Err(RunFault::NoMemory);
+    };
+    drop(book);
+    if write_all(sink, &text).is_err() {
+        return Err(RunFault::Write);
+    }
+    Ok(is_right)
 }
 
 // A storm of these steps on a new desk, which it ends.
@@ -275,7 +253,9 @@ fn storm_on<
         (use_of W.written W.failure_count sink.old sink.new) result }
 {
     let passes = passes_for(deciders.len(), binders.len());
-    let mut desk = Desk::<J>::for_passes(blank, alloc, keys, greatest, passes)?;
+    let Ok(mut desk) = Desk::<J>::for_passes(blank, alloc, keys, greatest, passes) else {
+        return Err(RunFault::NoMemory);
+    };
     match storm_to_dump(rt, alloc, &mut desk, steps, deciders, binders) {
         Err(fault) => {
             desk.discard(rt);

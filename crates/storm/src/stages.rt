@@ -36,10 +36,8 @@ fn feed_all<J: Naming + Send + Sync, R: Threads + Wait + Sync>(
     requires timely { All IsTimely stage.now.steps.now }
     ensures { Each (HasFed stage.now.steps.now) feeders.old feeders.new }
 {
-    let many = feeders.len();
-    if many == 0 {
-        return;
-    }
+    // (a thread is asked for where nobody works too)
+    let many = feeders.len().max(1);
     thread::for_each_mut(
         rt,
         feeders,
@@ -60,10 +58,8 @@ fn cycle_all<
     requires { ArePassesOf stage.now.desk.now cyclers.old }
     ensures { Each (HasScheduled D.Kit.answers D.kits stage.now.desk.now) cyclers.old cyclers.new }
 {
-    let many = cyclers.len();
-    if many == 0 {
-        return;
-    }
+    // (a thread is asked for where nobody works too)
+    let many = cyclers.len().max(1);
     thread::for_each_mut(
         rt,
         cyclers,
@@ -85,10 +81,8 @@ fn report_all<J: Naming + Send + Sync, R: Threads + Wait + Sync, B: Reporting + 
     requires { ArePassesOf desk.now reporters.old }
     ensures { Each HasReported reporters.old reporters.new }
 {
-    let many = reporters.len();
-    if many == 0 {
-        return;
-    }
+    // (a thread is asked for where nobody works too)
+    let many = reporters.len().max(1);
     thread::for_each_mut(
         rt,
         reporters,

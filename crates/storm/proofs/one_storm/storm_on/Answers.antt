@@ -4,8 +4,8 @@ use Rattle.storm.proofs.Ending.{told_storm}
 use Rattle.storm.proofs.one_storm.storm_on.Goals as goal
 
 -- there was no room for a desk
-pub returns-in_err-desk : goal.returns-in_err-desk
-returns-in_err-desk g c = record {
+pub returns-in_default : goal.returns-in_default
+returns-in_default g c = record {
   storm = search rules;
   front = search rules;
   quiet = search rules;
@@ -26,7 +26,7 @@ returns-in-Err g c = record {
 }
 
 -- the desk was closed, audited and told of
-pub returns-in-Ok : goal.returns-in-Ok
-returns-in-Ok g c =
+pub returns-in-Ok-storm_to_dump : goal.returns-in-Ok-storm_to_dump
+returns-in-Ok-storm_to_dump g c =
     told_storm (λ d. rules_of g.D.Kit.Rules.answers (g.D.Decider.kits d)) c.args.deciders.items (length c.args.binders.items) _ c.args.steps.now _ _ _ _ _ _
-    c.in-Ok.ensures.ended c.close_and_tell.ensures
+    c.in-Ok-storm_to_dump.ensures.ended c.close_and_tell.ensures

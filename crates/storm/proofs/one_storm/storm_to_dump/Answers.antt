@@ -33,7 +33,7 @@ pub returns-clause-ended : goal.returns-clause-ended
 returns-clause-ended g c =
     let h = c.in_ok-hands.hands in
     let is = c.in_ok-hands.ensures in
-    ended g.D.Kit.Rules.answers g.D.Decider.kits c.args.steps.now c.args.deciders.items c.args.binders.items c.in_ok-counts.counts c.in_ok-counts.shown c.work_and_dump.new.clerk
+    ended g.D.Kit.Rules.answers g.D.Decider.kits c.args.steps.now c.args.deciders.items c.args.binders.items c.in-Ok.counts c.in-Ok.shown c.work_and_dump.new.clerk
     c.hand_out.new.desk h.clerk c.as_mut_slice.result.now c.as_mut_slice-2.result.now c.as_mut_slice-3.result.now c.requires.some
     (is.handed ∙ ap (λ (d : Desk). record d { handed = 2 + length c.args.deciders.items + length c.args.binders.items + 1 }) c.requires.new)
-    is.clerk (c.as_mut_slice.ensures.value ∙ is.feeders) (c.as_mut_slice-2.ensures.value ∙ is.cyclers) (c.as_mut_slice-3.ensures.value ∙ is.reporters) c.in_ok-counts.ensures.worked
+    is.clerk (c.as_mut_slice.ensures.value ∙ is.feeders) (c.as_mut_slice-2.ensures.value ∙ is.cyclers) (c.as_mut_slice-3.ensures.value ∙ is.reporters) c.in-Ok.ensures

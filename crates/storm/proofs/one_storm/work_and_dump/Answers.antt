@@ -1,3 +1,4 @@
+use Rattle.std.proofs.lemmas.Result.{IfOk-weaker}
 use Rattle.storm.specs.inside.Stages.{HasFed, HasReported, HasScheduled}
 use Rattle.storm.proofs.Staging.{still_passes}
 use Rattle.storm.proofs.one_storm.work_and_dump.Goals as goal
@@ -17,17 +18,18 @@ take_dump-requires-clause-reporters g c =
     still_passes c.args.desk.now HasReported (λ w w' reported. reported.number) c.args.reporters.now c.work.new.reporters c.requires.reporters c.work.ensures.reported
 
 -- all worked, and were dumped
-pub returns-clause-worked : goal.returns-clause-worked
-returns-clause-worked g c = record {
-  feeders' = c.work.new.feeders;
-  cyclers' = c.work.new.cyclers;
-  reporters' = c.work.new.reporters;
-  told = c.work.ensures.fed;
-  turned = c.work.ensures.turned;
-  idle = c.work.ensures.idle;
-  reported = c.work.ensures.reported;
-  all_told = c.all_done.ensures.0 c.if-not-all_done.false;
-  all_turned = c.all_done-else-not-all_done.ensures.0 c.if-not-all_done-2.false;
-  all_reported = c.all_done-else-not-all_done-2.ensures.0 c.if-not-all_done-3.false;
-  dumped = c.in_ok-dump.ensures.dumped;
-}
+pub returns : goal.returns
+returns g c =
+    IfOk-weaker c.take_dump.result _ _ (λ dump is. record {
+      feeders' = c.work.new.feeders;
+      cyclers' = c.work.new.cyclers;
+      reporters' = c.work.new.reporters;
+      told = c.work.ensures.fed;
+      turned = c.work.ensures.turned;
+      idle = c.work.ensures.idle;
+      reported = c.work.ensures.reported;
+      all_told = c.all_done.ensures.0 c.if-not-all_done.false;
+      all_turned = c.all_done-else-not-all_done.ensures.0 c.if-not-all_done-2.false;
+      all_reported = c.all_done-else-not-all_done-2.ensures.0 c.if-not-all_done-3.false;
+      dumped = is;
+    }) c.take_dump.ensures.dumped
