@@ -14,7 +14,6 @@ pub enum Reach {
 }
 
 /// What a rule said, and how far that reaches.
-#[derive(Clone, Copy)]
 pub struct Asked<V> {
     pub said: V,
     pub reach: Reach,

@@ -8,7 +8,7 @@ ghost use Rattle.plugin.specs.inside.Kept.{KeptHolds, NewlyHeard};
 ghost use Rattle.plugin.specs.inside.Shown.{IsOfNode};
 
 use crate::answers::{Answers, Heard, Known, no_answers, nothing};
-use crate::asked::Reach;
+use crate::asked::{Asked, Reach};
 use crate::kept::{Kept, Spot};
 use crate::kit::Kit;
 use quant::{Pod, Res, SharedNode};
@@ -109,16 +109,9 @@ impl Shown {
         if let Some(said) = self.known.filter(place) {
             return said;
         }
-        let asked = kit.ask_filter(place, pod, &self.class, node, used);
-        self.note(
-            kept,
-            node,
-            used,
-            place,
-            Heard::Filter(asked.said),
-            asked.reach,
-        );
-        asked.said
+        let Asked { said, reach } = kit.ask_filter(place, pod, &self.class, node, used);
+        self.note(kept, node, used, place, Heard::Filter(said), reach);
+        said
     }
 
     /// What the score of a kit's plugin says of the pod and the node that were shown, likewise.
@@ -149,15 +142,8 @@ impl Shown {
         if let Some(said) = self.known.score(place) {
             return said;
         }
-        let asked = kit.ask_score(place, pod, &self.class, node, used);
-        self.note(
-            kept,
-            node,
-            used,
-            place,
-            Heard::Score(asked.said),
-            asked.reach,
-        );
-        asked.said
+        let Asked { said, reach } = kit.ask_score(place, pod, &self.class, node, used);
+        self.note(kept, node, used, place, Heard::Score(said), reach);
+        said
     }
 }

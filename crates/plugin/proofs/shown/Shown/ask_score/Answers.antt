@@ -29,17 +29,17 @@ returns-in-Some-score-clause-says c =
 pub returns-clause-says : goal.returns-clause-says
 returns-clause-says c =
     let records = told_of c.args.pod.now c.args.node.now c.args.used.now in
-    let hears = score_heard c.args.kit.now c.args.place c.requires.there c.ask_score-asked.result.reach records records c.ask_score-asked.result.said refl c.ask_score-asked.ensures.says in
-    score_there c.args.kit.now c.args.place c.requires.there records c.ask_score-asked.result.said
-    (λ p there. hears records (reaches_itself c.ask_score-asked.result.reach records records refl) p there)
+    let hears = score_heard c.args.kit.now c.args.place c.requires.there c.ask_score-said.result.reach records records c.ask_score-said.result.said refl c.ask_score-said.ensures.says in
+    score_there c.args.kit.now c.args.place c.requires.there records c.ask_score-said.result.said
+    (λ p there. hears records (reaches_itself c.ask_score-said.result.reach records records refl) p there)
 
 pub returns-clause-kit : goal.returns-clause-kit
-returns-clause-kit c = plugins_stay c.args.place c.args.kit.now c.ask_score-asked.new.self c.ask_score-asked.ensures.others
+returns-clause-kit c = plugins_stay c.args.place c.args.kit.now c.ask_score-said.new.self c.ask_score-said.ensures.others
 
 pub returns-clause-kept : goal.returns-clause-kept
 returns-clause-kept c = λ hold.
     let records = told_of c.args.pod.now c.args.node.now c.args.used.now in
     let plugins = ready_parts c.args.kit.now in
-    let hears = score_heard c.args.kit.now c.args.place c.requires.there c.ask_score-asked.result.reach records records c.ask_score-asked.result.said refl c.ask_score-asked.ensures.says in
+    let hears = score_heard c.args.kit.now c.args.place c.requires.there c.ask_score-said.result.reach records records c.ask_score-said.result.said refl c.ask_score-said.ensures.says in
     c.note.ensures plugins hold
-    (newly_heard plugins records c.args.self.now.class c.args.node.now c.args.used.now c.args.place (heard.Score c.ask_score-asked.result.said) c.ask_score-asked.result.reach refl (sym c.requires.pod) hears)
+    (newly_heard plugins records c.args.self.now.class c.args.node.now c.args.used.now c.args.place (heard.Score c.ask_score-said.result.said) c.ask_score-said.result.reach refl (sym c.requires.pod) hears)
