@@ -12,7 +12,7 @@ ghost use Rattle.plugin.specs.inside.Asked.{Reaches};
 
 use crate::asked::Asked;
 use crate::fault::KitFault;
-use crate::member::Member;
+use crate::member::{Member, Spent};
 use crate::plugins::Plugins;
 use crate::told::Told;
 use quant::{Pod, Res, SharedNode};
@@ -111,20 +111,11 @@ impl Kit {
         self.alloc
     }
 
-    /// How much fuel its calls have used so far, from 2^64 on from 0 again.
-    pub(crate) fn spent(&self) -> u64 {
-        let mut spent = 0u64;
+    /// How much fuel its calls have used so far.
+    pub(crate) fn spent(&self) -> Spent {
+        let mut spent = Spent::nothing();
         for member in &self.members {
-            spent = spent.wrapping_add(member.spent());
-        }
-        spent
-    }
-
-    /// As much of that as calls have used that were shown no node.
-    pub(crate) fn spent_once(&self) -> u64 {
-        let mut spent = 0u64;
-        for member in &self.members {
-            spent = spent.wrapping_add(member.spent_once());
+            spent.add(member.spent());
         }
         spent
     }

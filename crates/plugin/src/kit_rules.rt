@@ -119,11 +119,11 @@ impl Rules for KitRules {
     }
 
     fn spent(&self) -> u64 {
-        self.kit.spent().wrapping_add(self.asked)
+        self.kit.spent().all.wrapping_add(self.asked)
     }
 
     fn spent_once(&self) -> u64 {
-        self.kit.spent_once()
+        self.kit.spent().once
     }
 
     ghost say_one_thing = { one_answer };

@@ -22,12 +22,12 @@ use whost::{Instance, InstanceFault, Records, Shows};
 use wmach::{Export, Outcome};
 use wtype::Checked;
 
-/// How much fuel a plugin's calls have used, from 2^64 on from 0 again.
+/// How much fuel calls have used, from 2^64 on from 0 again.
 #[derive(Clone, Copy)]
 pub struct Spent {
-    all: u64,
-    // As much of that as calls have used that were shown no node.
-    once: u64,
+    pub all: u64,
+    /// As much of that as calls have used that were shown no node.
+    pub once: u64,
 }
 
 /// An instance of a plugin's module, how much the plugin's score counts, the fuel of each of its
@@ -65,6 +65,17 @@ impl Model for Member {
 }
 
 impl Spent {
+    /// None.
+    pub fn nothing() -> Spent {
+        Spent { all: 0, once: 0 }
+    }
+
+    /// Counts what other calls have used.
+    pub fn add(&mut self, other: Spent) {
+        self.all = self.all.wrapping_add(other.all);
+        self.once = self.once.wrapping_add(other.once);
+    }
+
     // Counts the fuel of a call, and apart that of one that was shown no node.
     fn count(&mut self, outcome: Outcome, shows: Shows) {
         let fuel = fuel_used(outcome);
@@ -100,7 +111,7 @@ impl Member {
         Ok(Member {
             weight,
             fuel,
-            spent: Spent { all: 0, once: 0 },
+            spent: Spent::nothing(),
             instance,
             filter,
             score,
@@ -123,14 +134,9 @@ impl Member {
         self.instance.has(export)
     }
 
-    /// How much fuel its calls have used so far, from 2^64 on from 0 again.
-    pub fn spent(&self) -> u64 {
-        self.spent.all
-    }
-
-    /// As much of that as calls have used that were shown no node.
-    pub fn spent_once(&self) -> u64 {
-        self.spent.once
+    /// How much fuel its calls have used so far.
+    pub fn spent(&self) -> Spent {
+        self.spent
     }
 
     /// What its filter says, and how far that reaches: it is shown as little of the records as it
