@@ -9,7 +9,7 @@ use whost::InstanceFault;
 use wtype::TypeFault;
 
 /// Why a module is refused.
-#[derive(Clone, Copy, Debug, PartialEq, Eq, Error)]
+#[derive(Clone, Copy, Debug, Error)]
 pub enum Refusal {
     /// The bytes spell no module.
     #[error("decode {0}")]

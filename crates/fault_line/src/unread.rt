@@ -6,7 +6,7 @@ use crate::excerpt::Excerpt;
 use quant::Name;
 
 /// Why a file couldn't be opened or read, as far as the system says it.
-#[derive(Clone, Copy, Debug, PartialEq, Eq)]
+#[derive(Clone, Copy, Debug)]
 pub enum Cause {
     /// There is none of this name.
     Missing,

@@ -13,7 +13,7 @@ use wcode::BinFault;
 use wtype::{Checked, TypeFault, validate};
 
 /// What is found of a module.
-#[derive(Clone, Copy, PartialEq, Eq)]
+#[derive(Clone, Copy)]
 pub enum Verdict {
     /// The module is accepted.
     Accepted,
