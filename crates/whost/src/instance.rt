@@ -144,24 +144,6 @@ impl Instance {
         Some(outcome)
     }
 
-    /// Calls it likewise, but shows it no node: where it asks for one, there is no outcome. Else
-    /// the outcome is that of its calls with this pod and each node.
-    pub fn call_without_node(
-        &mut self,
-        records: &Records,
-        export: Export,
-        fuel: u64,
-    ) -> Option<Outcome>
-        requires there { IsSome (called_function (module_of self.old.content) export) }
-        requires by_name { export ≢ Export.Start }
-        ensures calls { IfSome result (λ outcome. (node : Versions) →
-            CallsFromImage self.old export (record records.now { node = node }) fuel outcome self.new) }
-        ensures result { IfSome result (ResultFits (result_type export)) }
-        ensures stays { self.new ≡ record self.old { store = self.new.store } }
-    {
-        self.call_shown(records, Shows::ThisPod, export, fuel)
-    }
-
     /// Makes the store the image again.
     pub fn reset(&mut self)
         ensures { self.new ≡ record self.old { store = self.old.image } }
