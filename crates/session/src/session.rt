@@ -197,7 +197,9 @@ fn do_cycle<J: Naming, R: Wait + Threads + Sync, D: Decider>(
         desk.old commands.Cycle desk.new told × Adds text.old text.new told) }
     ensures kits { D.kits decider.new ≡ D.kits decider.old }
 {
-    let came = tell_cycle(rt, named, explains, decider, desk, text)?;
+    let Ok(came) = tell_cycle(rt, named, explains, decider, desk, text) else {
+        return Err(NoMemory);
+    };
     push_cycled(text, named, &came);
     Ok(())
 }
@@ -219,7 +221,9 @@ fn tell_cycle<J: Naming, R: Wait + Threads + Sync, D: Decider>(
         × AreLines true told × Adds text.old text.new told) }
     ensures kits { D.kits decider.new ≡ D.kits decider.old }
 {
-    let popped = desk.pop(rt)?;
+    let Ok(popped) = desk.pop(rt) else {
+        return Err(NoMemory);
+    };
     let pod = match popped {
         Some(pod) => pod,
         None => return Ok(Cycled::Idle),
@@ -227,8 +231,12 @@ fn tell_cycle<J: Naming, R: Wait + Threads + Sync, D: Decider>(
     if !explains {
         return Ok(desk.place(rt, &pod, decider, false)?);
     }
-    let snapshot = desk.look()?;
-    let came = desk.place(rt, &pod, decider, true)?;
+    let Ok(snapshot) = desk.look() else {
+        return Err(NoMemory);
+    };
+    let Ok(came) = desk.place(rt, &pod, decider, true) else {
+        return Err(NoMemory);
+    };
     push_verdicts(text, named, &pod, snapshot.rows(), decider.verdicts());
     Ok(came)
 }
