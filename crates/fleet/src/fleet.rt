@@ -140,7 +140,9 @@ where
         ensures kits { self.new.kits ≡ self.old.kits }
     {
         let rows = snapshot.rows();
-        self.verdicts.resize(rows.len(), UNJUDGED)?;
+        let Ok(()) = self.verdicts.resize(rows.len(), UNJUDGED) else {
+            return Err(NoMemory);
+        };
         rule_by_first(
             rows,
             pod,

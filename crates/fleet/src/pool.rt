@@ -132,7 +132,9 @@ impl<J: Site, K: Rules + Drop, G: Gate + Drop> Pool<J, K, G> {
             }
             return Ok(choose_alone(&snapshot, pod, &self.home));
         }
-        self.verdicts.resize(nodes, UNJUDGED)?;
+        let Ok(()) = self.verdicts.resize(nodes, UNJUDGED) else {
+            return Err(NoMemory);
+        };
         let many = worth_waking(&self.home, self.helpers.len(), self.cost, nodes);
         let before = spent_by(&self.home);
         let decided = decide_with(
@@ -192,7 +194,9 @@ impl<J: Site, K: Rules + Drop, G: Gate + Drop> Decider for Pool<J, K, G> {
         filters_alone: bool,
     ) -> Result<(), NoMemory> {
         let rows = snapshot.rows();
-        self.verdicts.resize(rows.len(), UNJUDGED)?;
+        let Ok(()) = self.verdicts.resize(rows.len(), UNJUDGED) else {
+            return Err(NoMemory);
+        };
         let verdicts = self.verdicts.as_mut_slice();
         rule_on(rows, pod, filters_alone, &mut self.home, verdicts);
         Ok(())
