@@ -286,10 +286,7 @@ fn answer_meant<J: Naming, T: Wait + Threads + Sync, D: Decider>(
             tick_text(alloc, reply)
         }
         Meaning::Cycle => {
-            // It ends early for want of memory alone.
-            let Ok(turn) = live.cycle(rt, decider) else {
-                return Err(NoMemory);
-            };
+            let turn = live.cycle(rt, decider)?;
             turn_text(alloc, named, turn)
         }
         Meaning::Explain(uid) => explain(rt, alloc, named, decider, live, &uid),

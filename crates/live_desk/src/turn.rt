@@ -1,5 +1,5 @@
 //! A cycle, and what is asked of the ledger then.
-ghost use Rattle.std.specs.Prelude.{◌≡◌, IfOk, IfErr, OnOk};
+ghost use Rattle.std.specs.Prelude.{◌≡◌, IfOk, OnOk};
 ghost use Rattle.desk.specs.Machine.{State};
 ghost use Rattle.choose.specs.Kits.{rules_of};
 ghost use Rattle.cycle.specs.CycleAlone.{IsCycleAlone};
@@ -7,13 +7,12 @@ ghost use Rattle.live_desk.specs.Turns.{IsAsked, IsTurn, Leads, with_desk};
 
 use crate::live_desk::LiveDesk;
 use choose::Decider;
-use cycle::{CutShort, Cycled};
+use cycle::Cycled;
 use desk::{Naming, NoMemory, Step};
 use ledger::{Answer, Event};
 use quant::{Name, Ticket};
 use std::sync::Wait;
 use std::thread::Threads;
-use streams::RunFault;
 
 /// What a cycle came to.
 #[derive(Drop)]
@@ -47,16 +46,15 @@ impl<J: Naming> LiveDesk<J> {
         &mut self,
         rt: &R,
         decider: &mut D,
-    ) -> Result<Turn, RunFault>
+    ) -> Result<Turn, NoMemory>
         ensures turn { IfOk result (λ turn. IsTurn (rules_of D.Kit.answers (D.kits decider.old)) self.old turn self.new) }
         ensures kits { D.kits decider.new ≡ D.kits decider.old }
-        ensures faults { IfErr result (λ e. e ≡ RunFault.NoMemory) }
     {
         if !self.ledger.is_open() {
             return Ok(Turn::Shut);
         }
         let came = self.cycle_alone(rt, decider)?;
-        Ok(self.lead(rt, came)?)
+        self.lead(rt, came)
     }
 
     // What a cycle of the desk leads to.
@@ -79,16 +77,18 @@ impl<J: Naming> LiveDesk<J> {
         &mut self,
         rt: &R,
         decider: &mut D,
-    ) -> Result<Cycled, RunFault>
+    ) -> Result<Cycled, NoMemory>
         ensures cycled { IfOk result (λ came. (desk : State)
             × IsCycleAlone (rules_of D.Kit.answers (D.kits decider.old)) self.old.desk came desk
             × (self.new ≡ with_desk self.old desk)) }
         ensures kits { D.kits decider.new ≡ D.kits decider.old }
-        ensures faults { IfErr result (λ e. e ≡ RunFault.NoMemory) }
     {
-        match self.desk.pop(rt)? {
-            Some(pod) => Ok(self.desk.place(rt, &pod, decider, false)?),
-            None => Ok(Cycled::Idle),
+        let Some(pod) = self.desk.pop(rt)? else {
+            return Ok(Cycled::Idle);
+        };
+        match self.desk.place(rt, &pod, decider, false) {
+            Ok(came) => Ok(came),
+            Err(_) => Err(NoMemory),
         }
     }
 

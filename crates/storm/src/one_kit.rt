@@ -16,10 +16,19 @@ use std::thread::Threads;
 
 /// One kit, which decides in the thread that asks it. Where it has no rule, a decision that isn't
 /// to be explained takes one pass over the nodes and no memory.
-#[derive(Drop)]
 pub struct OneKit<K: Rules + Drop> {
     pub kit: K,
     verdicts: Vec<Verdict>,
+}
+
+// By hand, so that who drops one calls this, and its parts' drops are proved here alone.
+impl<K: Rules + Drop> Drop for OneKit<K> {
+    fn drop(self) {
+        let Self {
+            kit: _kit,
+            verdicts: _verdicts,
+        } = self;
+    }
 }
 
 impl<K: Rules + Drop> OneKit<K> {
