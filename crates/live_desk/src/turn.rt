@@ -88,6 +88,7 @@ impl<J: Naming> LiveDesk<J> {
         };
         match self.desk.place(rt, &pod, decider, false) {
             Ok(came) => Ok(came),
+            // (a cycle is cut short by want of memory alone)
             Err(_) => Err(NoMemory),
         }
     }
