@@ -11,7 +11,7 @@ use Rattle.objects.specs.Heard.{value_in}
 use Rattle.objects.specs.Site.{Site}
 use Rattle.live_desk.specs.State.{Live}
 use Rattle.live.specs.Live.{AreAnswered, IsAnswered, IsBegun, IsWhole, Manner, first_state, together}
-use Rattle.live.specs.Meaning.{meaning, of_value, reasons, reasons_of}
+use Rattle.live_line.specs.Meaning.{meaning, of_value, reasons, reasons_of}
 use Rattle.live.specs.inside.Live.{IsLineAnswered}
 
 -- what is kept of a line has the line's value

@@ -10,9 +10,9 @@ use Rattle.live_desk.proofs.History.{Goes, only_desk, pending_goes, taken_goes, 
 use Rattle.live_desk.proofs.OnlyDesk.{OnlyDesk, a_step, an_aside}
 use Rattle.live.specs.Laws.{LinesAreKept}
 use Rattle.live.specs.Live.{AreAnswered, IsAnswered, Manner, first_state, manner}
-use Rattle.live.specs.Meaning.{meaning, reasons}
-use Rattle.live.specs.declared.meaning.Meaning.{Meaning}
-use Rattle.live.specs.declared.meaning.Meaning.TheVariants as means
+use Rattle.live_line.specs.Meaning.{meaning, reasons}
+use Rattle.live_line.specs.declared.meaning.Meaning.{Meaning}
+use Rattle.live_line.specs.declared.meaning.Meaning.TheVariants as means
 
 -- what one line tells the ledger, and that each node of the desk keeps its name
 pub answered_goes : (m : Manner) (what : Meaning) (reasons : List ℕ) (s next : Live) (text : List ℕ) → IsAnswered m what reasons s text next → Goes s next

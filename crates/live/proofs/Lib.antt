@@ -2,4 +2,3 @@ pub mod Kept
 pub mod Going
 pub mod Lived
 pub mod Once
-pub mod Timely

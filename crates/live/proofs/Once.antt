@@ -15,9 +15,9 @@ use Rattle.live_desk.proofs.Once.{one_pending, one_taken, one_turn}
 use Rattle.live.specs.Answer.{explained_text, taken_text, told_text, turn_text}
 use Rattle.live.specs.Laws.{OneLiveOutput, FrontsBeginIt}
 use Rattle.live.specs.Live.{AreAnswered, IsAnswered, IsExplained, Manner, first_state, manner, together}
-use Rattle.live.specs.Meaning.{meaning, reasons}
-use Rattle.live.specs.declared.meaning.Meaning.{Meaning}
-use Rattle.live.specs.declared.meaning.Meaning.TheVariants as means
+use Rattle.live_line.specs.Meaning.{meaning, reasons}
+use Rattle.live_line.specs.declared.meaning.Meaning.{Meaning}
+use Rattle.live_line.specs.declared.meaning.Meaning.TheVariants as means
 use Rattle.live.proofs.Kept.{answered_goes}
 
 -- a pod has one explanation

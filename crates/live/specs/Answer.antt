@@ -20,8 +20,8 @@ use Rattle.live_desk.specs.declared.live_desk.Taken.{Taken}
 use Rattle.live_desk.specs.declared.live_desk.Taken.TheVariants.{Answers, LeftOut}
 use Rattle.live_desk.specs.declared.turn.Turn.{Turn}
 use Rattle.live_desk.specs.declared.turn.Turn.TheVariants as turns
-use Rattle.live.specs.declared.field.Field.{Field}
-use Rattle.live.specs.Field.{key}
+use Rattle.live_line.specs.declared.field.Field.{Field}
+use Rattle.live_line.specs.Field.{key}
 
 -- the word by which the ledger answers
 unfoldable pub word : Answer → List ℕ

@@ -26,10 +26,10 @@ use Rattle.live_desk.specs.Turns.{IsTurn}
 use Rattle.live_desk.specs.declared.live_desk.Taken.{Taken}
 use Rattle.live_desk.specs.declared.turn.Turn.{Turn}
 use Rattle.live.specs.declared.live_run.TheConstants.{MAX_KNOWN}
-use Rattle.live.specs.declared.meaning.Meaning.{Meaning}
-use Rattle.live.specs.declared.meaning.Meaning.TheVariants as means
+use Rattle.live_line.specs.declared.meaning.Meaning.{Meaning}
+use Rattle.live_line.specs.declared.meaning.Meaning.TheVariants as means
 use Rattle.live.specs.Answer.{answer_text, aside_text, dump_text, explained_text, faulty_text, nothing_text, taken_text, told_text, tick_text, turn_text}
-use Rattle.live.specs.Meaning.{meaning, reasons}
+use Rattle.live_line.specs.Meaning.{meaning, reasons}
 
 -- what answers go by: what of an object is read, and the rules, with their names as they are told
 pub record Manner : Type 1 where

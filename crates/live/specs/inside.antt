@@ -1,3 +1,1 @@
 pub mod Live
-pub mod Reading
-pub mod Timely

@@ -6,12 +6,12 @@ ghost use Rattle.output_lines.specs.Text.{cycle_line};
 ghost use Rattle.live_desk.specs.declared.turn.Turn.TheVariants as turns;
 ghost use Rattle.live.specs.Answer.{answer_text, aside_text, dump_text, explained_text, faulty_text, is_told, is_withheld, nothing_text, taken_text, taken_word, tick_text, told_word, turn_text, word};
 
-use crate::field::Field;
 use choose::Verdict;
 use cycle::Cycled;
 use desk::{NoMemory, Reply, Row, Snapshot};
 use ledger::{Answer, Event};
 use live_desk::{Taken, Turn};
+use live_line::Field;
 use output_lines::{NamedRule, push_cycled, push_judged, push_reply, push_snapshot, push_verdicts};
 use quant::{Name, Pod};
 use std::alloc::Global;

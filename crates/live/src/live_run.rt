@@ -12,20 +12,20 @@ ghost use Rattle.desk.specs.declared.step.Step.TheVariants.{Count};
 ghost use Rattle.live_desk.specs.State.{steps, to_place};
 ghost use Rattle.live.specs.Answer.{dump_text};
 ghost use Rattle.live.specs.Live.{IsAnswered, IsExplained, IsLive, first_state, manner};
-ghost use Rattle.live.specs.Meaning.{meaning, reasons};
+ghost use Rattle.live_line.specs.Meaning.{meaning, reasons};
 ghost use Rattle.live.specs.inside.Live.{IsLineAnswered, IsStopped};
-ghost use Rattle.live.specs.inside.Timely.{IsTimely};
+ghost use Rattle.live_line.specs.inside.Timely.{IsTimely};
 
 use crate::answer_text::{
     answer_text, aside_text, dump_text, explained_text, faulty_text, is_withheld, nothing_text,
     taken_text, tick_text, told_text, turn_text,
 };
-use crate::meaning::{Meaning, Meant, meaning_of};
 use choose::Decider;
 use desk::{Blank, Limits, Naming, NoMemory};
 use fault_line::{Fault, report};
 use ledger::Answer;
 use live_desk::LiveDesk;
+use live_line::{Meaning, Meant, meaning_of};
 use objects::{MAX_OBJECT, Site};
 use output_lines::NamedRule;
 use quant::{Name, SharedPod};

@@ -5,7 +5,7 @@ use Rattle.streams.specs.Device.{DeviceUse}
 use Rattle.streams.specs.declared.fault.RunFault.{RunFault}
 use Rattle.streams.specs.declared.fault.RunFault.TheVariants as run_fault
 use Rattle.live_desk.specs.State.{Live}
-use Rattle.live.specs.Meaning.{meaning, reasons}
+use Rattle.live_line.specs.Meaning.{meaning, reasons}
 use Rattle.live.specs.Live.{IsAnswered, IsBegun, IsWhole, Manner}
 
 -- a line's answer waits behind what waited

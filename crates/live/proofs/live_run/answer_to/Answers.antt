@@ -1,6 +1,6 @@
 use Rattle.std.proofs.Common.{sym, subst}
-use Rattle.live.specs.inside.Timely.{IsTimely}
-use Rattle.live.proofs.Timely.{timely}
+use Rattle.live_line.specs.inside.Timely.{IsTimely}
+use Rattle.live_line.proofs.Timely.{timely}
 use Rattle.live.proofs.live_run.answer_to.Goals as goal
 
 -- a moment that a line tells is one that clocks have

@@ -12,12 +12,12 @@ use Rattle.objects.specs.Heard.{heard, hearing, names_of, none_heard, value_in}
 use Rattle.objects.specs.Site.{Site, with_labels}
 use Rattle.ledger.specs.declared.event.Event.{Event}
 use Rattle.ledger.specs.declared.event.Event.TheVariants.{Node, NodeGone, Withheld, Stands, Unread, Gone}
-use Rattle.live.specs.declared.field.Field.{Field}
-use Rattle.live.specs.declared.field.Field.TheVariants as fields
-use Rattle.live.specs.declared.meaning.Meaning.{Meaning}
-use Rattle.live.specs.declared.meaning.Meaning.TheVariants.{Tells, Pending, Aside, Tick, Cycle, Explain, Dump, Nothing, Faulty}
-use Rattle.live.specs.Field.{key}
-use Rattle.live.specs.Order.{moment_at, order, text_at, told_in, uid_at}
+use Rattle.live_line.specs.declared.field.Field.{Field}
+use Rattle.live_line.specs.declared.field.Field.TheVariants as fields
+use Rattle.live_line.specs.declared.meaning.Meaning.{Meaning}
+use Rattle.live_line.specs.declared.meaning.Meaning.TheVariants.{Tells, Pending, Aside, Tick, Cycle, Explain, Dump, Nothing, Faulty}
+use Rattle.live_line.specs.Field.{key}
+use Rattle.live_line.specs.Order.{moment_at, order, text_at, told_in, uid_at}
 
 -- what a line orders, or its first fault
 abbrev pub of_order : Result Event Field → Meaning

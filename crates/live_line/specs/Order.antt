@@ -22,9 +22,9 @@ use Rattle.ledger.specs.declared.event.Outcome.{Outcome}
 use Rattle.ledger.specs.declared.event.Outcome.TheVariants.{Created, Refused, Over}
 use Rattle.ledger.specs.declared.event.Said.{Said}
 use Rattle.ledger.specs.declared.event.Said.TheVariants.{Waits, Stands, Gone}
-use Rattle.live.specs.declared.field.Field.{Field}
-use Rattle.live.specs.declared.field.Field.TheVariants as fields
-use Rattle.live.specs.Field.{key}
+use Rattle.live_line.specs.declared.field.Field.{Field}
+use Rattle.live_line.specs.declared.field.Field.TheVariants as fields
+use Rattle.live_line.specs.Field.{key}
 
 -- one reading after another: the first fault ends both
 infixl 10 ◌>>=◌

@@ -16,13 +16,13 @@ use Rattle.objects.specs.declared.heard.NoValue.TheVariants as no_values
 use Rattle.objects.specs.Heard.{heard, value_in}
 use Rattle.objects.specs.Site.{Site, with_labels}
 use Rattle.ledger.specs.declared.event.Event.{Event}
-use Rattle.live.specs.declared.field.Field.{Field}
-use Rattle.live.specs.declared.field.Field.TheVariants as fields
-use Rattle.live.specs.declared.meaning.Meaning.{Meaning}
-use Rattle.live.specs.Meaning.{is_order, meaning, of_aside, of_explain, of_moment, of_object, of_op, of_order, of_told, of_value}
-use Rattle.live.specs.Field.{key}
-use Rattle.live.specs.inside.Timely.{IsTimely}
-use Rattle.live.specs.Order.{a_moment, a_natural, moment_at, order, text_at, told_in, uid_at}
+use Rattle.live_line.specs.declared.field.Field.{Field}
+use Rattle.live_line.specs.declared.field.Field.TheVariants as fields
+use Rattle.live_line.specs.declared.meaning.Meaning.{Meaning}
+use Rattle.live_line.specs.Meaning.{is_order, meaning, of_aside, of_explain, of_moment, of_object, of_op, of_order, of_told, of_value}
+use Rattle.live_line.specs.Field.{key}
+use Rattle.live_line.specs.inside.Timely.{IsTimely}
+use Rattle.live_line.specs.Order.{a_moment, a_natural, moment_at, order, text_at, told_in, uid_at}
 
 either : (b : Bool) (x y : Meaning) → IsTimely x → IsTimely y → IsTimely (cond b x y)
 either true x y a b = a

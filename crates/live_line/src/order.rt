@@ -1,11 +1,11 @@
 //! The orders of whoever hands a ledger what the API server tells.
 ghost use Rattle.std.specs.Prelude.{◌≡◌, ◌≤◌, IfOk};
 ghost use Rattle.quant.specs.declared.limits.TheConstants.{LATEST_MOMENT};
-ghost use Rattle.live.specs.declared.field.Field.TheVariants as fields;
+ghost use Rattle.live_line.specs.declared.field.Field.TheVariants as fields;
 ghost use Rattle.serde_json.specs.View.{view};
 ghost use Rattle.objects.specs.Site.{site_of};
-ghost use Rattle.live.specs.Order.{text_at, name_at, ticket_at, kind_at, outcome_at, said_by, said_of, list_in, listed_in, deaf_in, hears_in, bind_in, answer_in, if_it, bind_read, read_in, plain_order, order, labels_at, told_in, moment_at, uid_at};
-ghost use Rattle.live.specs.inside.Reading.{Tells};
+ghost use Rattle.live_line.specs.Order.{text_at, name_at, ticket_at, kind_at, outcome_at, said_by, said_of, list_in, listed_in, deaf_in, hears_in, bind_in, answer_in, if_it, bind_read, read_in, plain_order, order, labels_at, told_in, moment_at, uid_at};
+ghost use Rattle.live_line.specs.inside.Reading.{Tells};
 
 use crate::field::Field;
 use ledger::{Event, Kind, Outcome, Said};

@@ -3,9 +3,9 @@ ghost use Rattle.std.specs.Prelude.{◌≡◌, [], IfOk, Ok};
 ghost use Rattle.serde_json.specs.View.{view};
 ghost use Rattle.objects.specs.Site.{site_of};
 ghost use Rattle.quant.specs.declared.limits.TheConstants.{LATEST_MOMENT};
-ghost use Rattle.live.specs.Meaning.{behind, is_order, of_aside, of_explain, of_moment, of_object, of_op, of_order, of_told, of_value, of_word, meaning, order_reasons, reasons, reasons_of, reasons_told};
-ghost use Rattle.live.specs.Order.{moment_at, text_at, told_in, uid_at};
-ghost use Rattle.live.specs.declared.field.Field.TheVariants as fields;
+ghost use Rattle.live_line.specs.Meaning.{behind, is_order, of_aside, of_explain, of_moment, of_object, of_op, of_order, of_told, of_value, of_word, meaning, order_reasons, reasons, reasons_of, reasons_told};
+ghost use Rattle.live_line.specs.Order.{moment_at, text_at, told_in, uid_at};
+ghost use Rattle.live_line.specs.declared.field.Field.TheVariants as fields;
 
 use crate::field::Field;
 use crate::order::{moment_at, op_of, order, told_in, uid_at};

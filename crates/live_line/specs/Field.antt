@@ -1,7 +1,7 @@
 -- How an order spells the names of its fields.
 use Rattle.std.specs.Prelude.{ℕ, List, codes}
-use Rattle.live.specs.declared.field.Field.{Field}
-use Rattle.live.specs.declared.field.Field.TheVariants.{Op, Of, Uid, Node, Ticket, Is, Gave, At, Event, Labels}
+use Rattle.live_line.specs.declared.field.Field.{Field}
+use Rattle.live_line.specs.declared.field.Field.TheVariants.{Op, Of, Uid, Node, Ticket, Is, Gave, At, Event, Labels}
 
 -- the name of a field
 abbrev pub key : Field → List ℕ

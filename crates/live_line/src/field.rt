@@ -1,6 +1,6 @@
 //! The fields of an order.
 ghost use Rattle.std.specs.Prelude.{◌≡◌};
-ghost use Rattle.live.specs.Field.{key};
+ghost use Rattle.live_line.specs.Field.{key};
 
 /// A field of an order. A fault names the field in which it stands.
 #[derive(Clone, Copy)]

@@ -1,0 +1,4 @@
+pub mod Field
+pub mod Order
+pub mod Meaning
+pub mod inside
