@@ -7,3 +7,4 @@ pub mod SaidLemmas
 pub mod KeptLemmas
 pub mod AskedLemmas
 pub mod TellingLemmas
+pub mod SiteLemmas

@@ -9,6 +9,8 @@ use Rattle.whost.specs.Refused.{WhyRefused}
 use Rattle.plugin.specs.declared.fault.AddFault.{AddFault}
 use Rattle.plugin.specs.declared.fault.AddFault.TheVariants.{Twice, Full, NoMemory}
 use Rattle.plugin.specs.declared.fault.KitFault.{KitFault}
+use Rattle.plugin.specs.declared.fault.NoKits.{NoKits}
+use Rattle.plugin.specs.declared.fault.NoKits.TheVariants as no_kits
 use Rattle.plugin.specs.Plugins.{Configured, IsTaken}
 
 -- a fault's number
@@ -46,3 +48,8 @@ pub record WhyNoKit (plugins : List Configured) (fault : KitFault) : Type 0 wher
   pub there : slice_get plugins place ≡ Some plugin
   pub fails : WhyNotReady plugin fault
   pub before : All HasImage (take place plugins)
+
+-- what stands where there are no kits of the plugins; want of memory says nothing of them
+abbrev pub WhyNoKits : List Configured → NoKits → Type 0
+WhyNoKits plugins (no_kits.NotReady fault) = WhyNoKit plugins fault
+WhyNoKits plugins no_kits.NoMemory = Unit {0}

@@ -1,4 +1,4 @@
-//! Why a plugin isn't configured, and why there is no kit.
+//! Why a plugin isn't configured, and why there are no kits.
 ghost use Rattle.std.specs.Prelude.{◌≡◌, codes};
 ghost use Rattle.plugin.specs.Refused.{number_of, name_of};
 
@@ -27,6 +27,15 @@ pub struct KitFault {
     pub plugin: Name,
     /// What keeps its module from being made an instance.
     pub fault: InstanceFault,
+}
+
+/// Why there are no kits of a site's plugins.
+#[derive(Drop)]
+pub enum NoKits {
+    /// Of a plugin no instance can be made.
+    NotReady(KitFault),
+    /// Memory ran out, beside what an instance takes.
+    NoMemory,
 }
 
 impl AddFault {

@@ -6,6 +6,7 @@
 //! the modules that a site configures, in order; a `Kit` of them has one instance of each, belongs
 //! to one thread, and can be moved to another; `KitRules` is a kit as a set of rules. It keeps what
 //! rules said for pods that differ in their uid alone (`kept`), so that they aren't asked again.
+//! `kits` makes all that a site's threads need.
 #![tactic(auto)]
 
 mod answers;
@@ -14,6 +15,7 @@ mod fault;
 mod kept;
 mod kit;
 mod kit_rules;
+mod kits;
 mod laws;
 mod member;
 mod plugins;
@@ -22,9 +24,10 @@ mod shown;
 mod told;
 mod verdict;
 
-pub use fault::{AddFault, KitFault};
+pub use fault::{AddFault, KitFault, NoKits};
 pub use kit::Kit;
 pub use kit_rules::KitRules;
+pub use kits::{Configuration, kits_of};
 pub use laws::{kits_are_alike, rules_are_calls};
 pub use plugins::{MAX_FUEL, MAX_PLUGINS, MAX_WEIGHT, Plugin, Plugins};
 pub use rules::{Cause, FilterVerdict, Rejection, Rules, ScoreVerdict, Trap};

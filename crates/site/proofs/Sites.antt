@@ -1,9 +1,11 @@
 -- How plugins are configured one after the other, and kits made of them.
-use Rattle.std.proofs.Common.{◌≡◌, ℕ, zero, suc, ◌+◌, ◌<◌, ◌≤◌, List, [], ◌∷◌, ◌++◌, length, map, take, Option, Some, IfSome, slice_get, slice_index_or, refl, sym, ap, subst, ◌∙◌, arith, add-one}
+use Rattle.std.proofs.Common.{◌≡◌, ℕ, zero, suc, ◌+◌, ◌≤◌, List, [], ◌∷◌, ◌++◌, length, map, take, Option, Some, IfSome, slice_get, All, refl, sym, ap, subst, ◌∙◌, arith, add-one}
 use Rattle.std.proofs.lemmas.List.{length-map, map-append, take_all}
-use Rattle.plugin.specs.Plugins.{Configured, IsTaken, names}
+use Rattle.std.proofs.lemmas.List.Elements.{All-nil, All-cons, All-head, All-tail}
+use Rattle.plugin.specs.Plugins.{Configured, IsWeight, IsFuel}
+use Rattle.plugin.specs.Plugins as configured
 use Rattle.command.specs.Words.{SpecSyntax, syntax_of}
-use Rattle.command.specs.Within.{HaveDistinctNames}
+use Rattle.command.specs.Within.{AreWithinLimits, HaveDistinctNames, IsWithinLimits}
 use Rattle.command.specs.declared.asked.Spec.{Spec}
 use Rattle.site.specs.Verdict.{front_of}
 use Rattle.streams.specs.declared.fault.RunFault.TheVariants as run_fault
@@ -14,24 +16,6 @@ use Rattle.site.specs.Site.{ArePlugins, IsPlugin, ModuleRefused, WhyNoModules, W
 use Rattle.site.specs.inside.Site.{WhyNoModule}
 
 -- ---- lists
-
--- what stands in a list's front stands in the list
-in_front : {A : Type 0} (xs : List A) (i j : ℕ) (x : A) → slice_get (take i xs) j ≡ Some x → (j < i) × (slice_get xs j ≡ Some x)
-in_front [] zero j x there = cc
-in_front [] (suc i) j x there = cc
-in_front (a ∷ xs) zero j x there = cc
-in_front (a ∷ xs) (suc i) zero x there = (omega arith, there)
-in_front (a ∷ xs) (suc i) (suc j) x there =
-    let rest = in_front xs i j x there in
-    (omega (arith, rest.0), rest.1)
-
--- what stands in a list of images is an image
-image_at : {A B : Type 0} (f : A → B) (xs : List A) (j : ℕ) (y : B) → slice_get (map f xs) j ≡ Some y → (x : A) × (slice_get xs j ≡ Some x) × (f x ≡ y)
-image_at f [] j y there = cc
-image_at f (a ∷ xs) zero y there =
-    let same : f a ≡ y = cc in
-    (a, refl, same)
-image_at f (a ∷ xs) (suc j) y there = image_at f xs j y there
 
 at_image : {A B : Type 0} (f : A → B) (xs : List A) (j : ℕ) (x : A) → slice_get xs j ≡ Some x → slice_get (map f xs) j ≡ Some (f x)
 at_image f [] j x there = cc
@@ -51,27 +35,63 @@ as_many (s ∷ specs) [] plugins are = absurd are
 as_many (s ∷ specs) (b ∷ modules) [] are = absurd are
 as_many (s ∷ specs) (b ∷ modules) (p ∷ plugins) are = ap suc (as_many specs modules plugins are.1)
 
--- each has a configured name
-named_at : (specs : List SpecSyntax) (modules : List (List ℕ)) (plugins : List Configured) (j : ℕ) (name : List ℕ) → ArePlugins specs modules plugins
-    → j < length (names plugins) → slice_index_or (names plugins) j name ≡ name → (s : SpecSyntax) × (slice_get specs j ≡ Some s) × (s.name ≡ name)
-named_at [] [] [] j name are below at = absurd (omega (arith, below))
-named_at [] [] (p ∷ plugins) j name are below at = absurd are
-named_at [] (b ∷ modules) plugins j name are below at = absurd are
-named_at (s ∷ specs) [] plugins j name are below at = absurd are
-named_at (s ∷ specs) (b ∷ modules) [] j name are below at = absurd are
-named_at (s ∷ specs) (b ∷ modules) (p ∷ plugins) zero name are below at = (s, refl, sym are.0.name ∙ at)
-named_at (s ∷ specs) (b ∷ modules) (p ∷ plugins) (suc j) name are below at = named_at specs modules plugins j name are.1 (omega (arith, below)) at
+-- each is one that is configured, by its name
+spec_at : (specs : List Spec) (modules : List (List ℕ)) (plugins : List Configured) (j : ℕ) (p : Configured) → ArePlugins (map syntax_of specs) modules plugins
+    → slice_get plugins j ≡ Some p → (s : Spec) × (slice_get specs j ≡ Some s) × (p.name ≡ s.name)
+spec_at [] [] [] j p are at = cc
+spec_at [] [] (q ∷ plugins) j p are at = absurd are
+spec_at [] (b ∷ modules) plugins j p are at = absurd are
+spec_at (s ∷ specs) [] plugins j p are at = absurd are
+spec_at (s ∷ specs) (b ∷ modules) [] j p are at = absurd are
+spec_at (s ∷ specs) (b ∷ modules) (q ∷ plugins) zero p are at =
+    let same : p ≡ q = cc in
+    (s, refl, ap (λ x. x.name) same ∙ are.0.name)
+spec_at (s ∷ specs) (b ∷ modules) (q ∷ plugins) (suc j) p are at = spec_at specs modules plugins j p are.1 at
 
--- the next one's name is taken by none of those before it
-pub alone : (specs : List Spec) (modules : List (List ℕ)) (plugins : List Configured) (i : ℕ) (spec : Spec) → HaveDistinctNames specs → slice_get specs i ≡ Some spec
-    → ArePlugins (take i (map syntax_of specs)) (take i modules) plugins → ¬ (IsTaken plugins spec.name)
-alone specs modules plugins i spec distinct at are taken =
-    let named = named_at (take i (map syntax_of specs)) (take i modules) plugins taken.0 spec.name are taken.1 taken.2 in
-    let front = in_front (map syntax_of specs) i taken.0 named.0 named.1 in
-    let other = image_at syntax_of specs taken.0 named.0 front.1 in
-    let same : other.0.name ≡ spec.name = ap (λ s. s.name) other.2 ∙ named.2 in
-    let one : taken.0 ≡ i = distinct taken.0 i other.0 spec other.1 at same in
-    omega (arith, one, front.0)
+-- so their names differ where the configured ones do
+names_differ : (specs : List Spec) (modules : List (List ℕ)) (plugins : List Configured) → HaveDistinctNames specs → ArePlugins (map syntax_of specs) modules plugins
+    → configured.HaveDistinctNames plugins
+names_differ specs modules plugins distinct are j k one other at there same =
+    let first = spec_at specs modules plugins j one are at in
+    let second = spec_at specs modules plugins k other are there in
+    distinct j k first.0 second.0 first.1 second.1 (sym first.2 ∙ same ∙ second.2)
+
+-- their weights and fuels are configured ones
+weights_are : (specs : List Spec) (modules : List (List ℕ)) (plugins : List Configured) → All IsWithinLimits specs → ArePlugins (map syntax_of specs) modules plugins
+    → All (λ p. IsWeight p.weight) plugins
+weights_are [] [] [] limits are = All-nil (λ p. IsWeight p.weight)
+weights_are [] [] (p ∷ plugins) limits are = absurd are
+weights_are [] (b ∷ modules) plugins limits are = absurd are
+weights_are (s ∷ specs) [] plugins limits are = absurd are
+weights_are (s ∷ specs) (b ∷ modules) [] limits are = absurd are
+weights_are (s ∷ specs) (b ∷ modules) (p ∷ plugins) limits are =
+    let limit = All-head IsWithinLimits s specs limits in
+    let weight : IsWeight s.weight = record { least = limit.least_weight; most = limit.most_weight } in
+    All-cons (λ p. IsWeight p.weight) p plugins (subst IsWeight (sym are.0.weight) weight)
+    (weights_are specs modules plugins (All-tail IsWithinLimits s specs limits) are.1)
+
+fuels_are : (specs : List Spec) (modules : List (List ℕ)) (plugins : List Configured) → All IsWithinLimits specs → ArePlugins (map syntax_of specs) modules plugins
+    → All (λ p. IsFuel p.fuel) plugins
+fuels_are [] [] [] limits are = All-nil (λ p. IsFuel p.fuel)
+fuels_are [] [] (p ∷ plugins) limits are = absurd are
+fuels_are [] (b ∷ modules) plugins limits are = absurd are
+fuels_are (s ∷ specs) [] plugins limits are = absurd are
+fuels_are (s ∷ specs) (b ∷ modules) [] limits are = absurd are
+fuels_are (s ∷ specs) (b ∷ modules) (p ∷ plugins) limits are =
+    let limit = All-head IsWithinLimits s specs limits in
+    let fuel : IsFuel s.fuel = record { least = limit.least_fuel; most = limit.most_fuel } in
+    All-cons (λ p. IsFuel p.fuel) p plugins (subst IsFuel (sym are.0.fuel) fuel)
+    (fuels_are specs modules plugins (All-tail IsWithinLimits s specs limits) are.1)
+
+-- so they are within the limits of a site's plugins
+pub within : (specs : List Spec) (modules : List (List ℕ)) (plugins : List Configured) → AreWithinLimits specs → ArePlugins (map syntax_of specs) modules plugins
+    → configured.AreWithinLimits plugins
+within specs modules plugins limits are = record {
+  most = omega (arith, as_many (map syntax_of specs) modules plugins are, length-map specs syntax_of, limits.most);
+  weights = weights_are specs modules plugins limits.limits are;
+  fuels = fuels_are specs modules plugins limits.limits are;
+  names = names_differ specs modules plugins limits.names are;
+}
 
 -- one more plugin is had
 pub plugins_more : (specs : List SpecSyntax) (modules : List (List ℕ)) (plugins : List Configured) (i : ℕ) (s : SpecSyntax) (b : List ℕ) (p : Configured)
@@ -89,13 +109,14 @@ plugins_more (t ∷ specs) (c ∷ modules) (q ∷ plugins) (suc i) s b p at ther
     (are.0, plugins_more specs modules plugins i s b p at there are.1 is)
 
 -- the same, from the code's own lists
-pub plugin_joins : {M : Type 0} (bytes_of : M → List ℕ) (specs : List Spec) (modules : List M) (old new : List Configured) (i : ℕ) (spec : Spec) (given : M)
-    → slice_get specs i ≡ Some spec → slice_get modules i ≡ Some given
-    → ArePlugins (take i (map syntax_of specs)) (take i (map bytes_of modules)) old
-    → (p : Configured) × IsPlugin (syntax_of spec) (bytes_of given) p × (new ≡ old ++ p ∷ [])
-    → ArePlugins (take (i + 1) (map syntax_of specs)) (take (i + 1) (map bytes_of modules)) new
-plugin_joins bytes_of specs modules old new i spec given at there are (p, is, joined) =
-    rw (add-one, joined) (plugins_more (map syntax_of specs) (map bytes_of modules) old i (syntax_of spec) (bytes_of given) p (at_image syntax_of specs i spec at) (at_image bytes_of modules i given there) are is)
+pub plugin_joins : {M C : Type 0} (bytes_of : M → List ℕ) (plugin_of : C → Configured) (specs : List Spec) (modules : List M) (old new : List C) (i : ℕ) (spec : Spec) (given : M) (one : C)
+    → slice_get specs i ≡ Some spec → slice_get modules i ≡ Some given → new ≡ old ++ one ∷ []
+    → ArePlugins (take i (map syntax_of specs)) (take i (map bytes_of modules)) (map plugin_of old)
+    → IsPlugin (syntax_of spec) (bytes_of given) (plugin_of one)
+    → ArePlugins (take (i + 1) (map syntax_of specs)) (take (i + 1) (map bytes_of modules)) (map plugin_of new)
+plugin_joins bytes_of plugin_of specs modules old new i spec given one at there joined are is =
+    rw (add-one, joined, map-append plugin_of old (one ∷ []))
+    (plugins_more (map syntax_of specs) (map bytes_of modules) (map plugin_of old) i (syntax_of spec) (bytes_of given) (plugin_of one) (at_image syntax_of specs i spec at) (at_image bytes_of modules i given there) are is)
 
 -- the module at a place is refused
 pub refused_at : {M : Type 0} (bytes_of : M → List ℕ) (specs : List Spec) (modules : List M) (before : List Configured) (i : ℕ) (spec : Spec) (given : M) (fault : Fault)
@@ -195,5 +216,3 @@ no_modules specs first old new i spec (Run (run_fault.Line number fault)) at sam
 no_modules specs first old new i spec (Run run_fault.Read) at same why = absurd why
 no_modules specs first old new i spec (Run run_fault.Write) at same why = absurd why
 no_modules specs first old new i spec (Run run_fault.NoPlace) at same why = absurd why
-
--- ---- kits

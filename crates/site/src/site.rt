@@ -4,10 +4,10 @@ ghost use Rattle.std.specs.List.{All};
 ghost use Rattle.wbin.specs.Syntax.{module_of};
 ghost use Rattle.wbin.specs.Grammar.{Spells};
 ghost use Rattle.wtype.specs.Accepted.{Accepted};
-ghost use Rattle.plugin.specs.Plugins.{IsTaken};
-ghost use Rattle.plugin.specs.Kit.{IsKitOf, rules_of};
+ghost use Rattle.plugin.specs.Entries.{configuration_of, configurations_of};
+ghost use Rattle.plugin.specs.Kit.{rules_of};
 ghost use Rattle.choose.specs.Kits.{JudgeAlike};
-ghost use Rattle.command.specs.Within.{AreWithinLimits, IsWithinLimits};
+ghost use Rattle.command.specs.Within.{AreWithinLimits};
 ghost use Rattle.command.specs.Words.{syntax_of};
 ghost use Rattle.streams.specs.declared.fault.RunFault.TheVariants as run_fault;
 ghost use Rattle.fault_line.specs.declared.fault.Fault.TheVariants.{Run};
@@ -20,7 +20,7 @@ use crate::folder::Files;
 use crate::verdict::{Unaccepted, accepted_in};
 use command::Spec;
 use fault_line::{Cause, Fault, FileFault, PluginUnread, Refusal, excerpt_of};
-use plugin::{AddFault, Kit, KitFault, KitRules, Plugin, Plugins, kits_are_alike};
+use plugin::{Configuration, KitFault, KitRules, NoKits, Plugin, kits_are_alike, kits_of};
 use quant::Name;
 use std::alloc::Global;
 use std::sync::Arc;
@@ -49,60 +49,55 @@ pub fn site_kits(
     ensures alike { IfOk result (λ kits. JudgeAlike rules_of kits.items) }
     ensures refused { IfErr result (WhyNoSite (map syntax_of specs.now) (map (λ m. m.items) modules.now)) }
 {
-    let plugins = plugins_of(alloc, specs, modules)?;
-    let kits = kits_of(alloc, &plugins, many)?;
-    kits_are_alike();
-    Ok(kits)
+    let site = configured(alloc, specs, modules)?;
+    match kits_of(alloc, site.as_slice(), many) {
+        Ok(kits) => {
+            kits_are_alike();
+            Ok(kits)
+        }
+        Err(NoKits::NotReady(fault)) => Err(not_ready(fault)),
+        Err(NoKits::NoMemory) => Err(NO_MEMORY),
+    }
 }
 
 // The plugins that are configured, each with its module.
-fn plugins_of(alloc: Global, specs: &[Spec<'_>], modules: &[Vec<u8>]) -> Result<Plugins, Fault>
-    requires specs { AreWithinLimits specs.now }
-    requires modules { length modules.now ≡ length specs.now }
-    ensures made { IfOk result (ArePlugins (map syntax_of specs.now) (map (λ m. m.items) modules.now)) }
+fn configured(
+    alloc: Global,
+    specs: &[Spec<'_>],
+    modules: &[Vec<u8>],
+) -> Result<Vec<Configuration>, Fault>
+    requires { length modules.now ≡ length specs.now }
+    ensures made { IfOk result (λ site. ArePlugins (map syntax_of specs.now) (map (λ m. m.items) modules.now)
+        (configurations_of site.items)) }
     ensures refused { IfErr result (ModuleRefused (map syntax_of specs.now) (map (λ m. m.items) modules.now)) }
 {
-    let mut plugins = Plugins::new(alloc);
+    let mut site = Vec::new(alloc);
     for place in 0..specs.len() {
-        add_plugin(
-            alloc,
-            &specs[place],
-            modules[place].as_slice(),
-            &mut plugins,
-        )?;
+        let configuration = configured_by(alloc, &specs[place], modules[place].as_slice())?;
+        if site.push(configuration).is_err() {
+            return Err(NO_MEMORY);
+        }
     }
-    Ok(plugins)
+    Ok(site)
 }
 
-// Puts a plugin behind the others, with the module in these bytes.
-fn add_plugin(
-    alloc: Global,
-    spec: &Spec<'_>,
-    bytes: &[u8],
-    plugins: &mut Plugins,
-) -> Result<(), Fault>
-    requires limits { IsWithinLimits spec.now }
-    requires alone { ¬ (IsTaken plugins.old spec.now.name) }
-    requires room { length plugins.old < 16 }
-    ensures added { OnOk result ((p : _) × IsPlugin (syntax_of spec.now) bytes.now p ×
-        (plugins.new ≡ plugins.old ++ p ∷ [])) }
+// A plugin with the module in these bytes.
+fn configured_by(alloc: Global, spec: &Spec<'_>, bytes: &[u8]) -> Result<Configuration, Fault>
+    ensures made { IfOk result (λ it. IsPlugin (syntax_of spec.now) bytes.now (configuration_of it)) }
     ensures refused { IfErr result (WhyNoPlugin spec.now.name bytes.now) }
 {
     let checked = checked_from(alloc, &spec.name, bytes)?;
     let Ok(checked) = Arc::new(alloc, checked) else {
         return Err(NO_MEMORY);
     };
-    let plugin = Plugin {
-        name: spec.name.copied(),
-        weight: spec.weight,
-        fuel: spec.fuel,
-    };
-    match plugins.add(plugin, checked) {
-        Ok(()) => Ok(()),
-        Err(AddFault::NoMemory) => Err(NO_MEMORY),
-        Err(AddFault::Twice) => unreachable!(),
-        Err(AddFault::Full) => unreachable!(),
-    }
+    Ok(Configuration {
+        plugin: Plugin {
+            name: spec.name.copied(),
+            weight: spec.weight,
+            fuel: spec.fuel,
+        },
+        checked,
+    })
 }
 
 // The accepted module in the bytes that a plugin of this name has.
@@ -116,22 +111,6 @@ fn checked_from(alloc: Global, name: &Name, bytes: &[u8]) -> Result<Checked, Fau
         Err(Unaccepted::Refused(why)) => Err(Fault::Plugin(name.copied(), why)),
         Err(Unaccepted::NoMemory) => Err(NO_MEMORY),
     }
-}
-
-// The rules of so many kits of the plugins.
-fn kits_of(alloc: Global, plugins: &Plugins, workers: usize) -> Result<Vec<KitRules>, Fault>
-    ensures count { IfOk result (λ kits. vec_len kits ≡ workers) }
-    ensures all { IfOk result (λ kits. All (IsKitOf plugins.now) kits.items) }
-    ensures refused { IfErr result (λ fault. (fault ≡ Run run_fault.NoMemory) ⊎ NoKit plugins.now fault) }
-{
-    let mut kits = Vec::new(alloc);
-    while kits.len() < workers {
-        let kit = Kit::new(alloc, plugins).map_err(not_ready)?;
-        if kits.push(KitRules::new(kit)).is_err() {
-            return Err(NO_MEMORY);
-        }
-    }
-    Ok(kits)
 }
 
 // What is told where there is no kit.
