@@ -421,8 +421,9 @@ pub fn arguments<R: Env + AllocGlobal>(rt: &R) -> Result<Vec<String>, WordFault>
 
 // Why the words could not be read.
 fn unread(kind: io::ErrorKind) -> WordFault {
-    match kind {
-        io::ErrorKind::InvalidData => WordFault::BadWords,
-        _ => WordFault::NoMemory,
+    if kind == io::ErrorKind::InvalidData {
+        WordFault::BadWords
+    } else {
+        WordFault::NoMemory
     }
 }
