@@ -1,4 +1,5 @@
-//! All kits of a site's plugins.
+//! All kits of a site's plugins. They are made here, so that no crate above names `Plugins`: its
+//! library would carry all that is stated of the table in them.
 ghost use Rattle.std.specs.Prelude.{◌≡◌, ◌<◌, ◌∷◌, ◌++◌, [], length, vec_len, IfErr, IfOk, OnOk};
 ghost use Rattle.std.specs.List.{All};
 ghost use Rattle.plugin.specs.Plugins.{AreWithinLimits, IsFuel, IsTaken, IsWeight};
