@@ -1,6 +1,5 @@
 //! A site's plugins: from what the words configure and what the files have to kits.
-ghost use Rattle.std.specs.Prelude.{◌≡◌, ◌⊎◌, ◌<◌, ◌^◌, ◌≤◌, ◌∷◌, ◌++◌, [], length, vec_len, map, IfErr, IfOk, IfSome, OnOk};
-ghost use Rattle.std.specs.List.{All};
+ghost use Rattle.std.specs.Prelude.{◌≡◌, ◌<◌, ◌^◌, length, map, IfErr, IfOk, IfSome, OnOk};
 ghost use Rattle.wbin.specs.Syntax.{module_of};
 ghost use Rattle.wbin.specs.Grammar.{Spells};
 ghost use Rattle.wtype.specs.Accepted.{Accepted};
@@ -9,10 +8,8 @@ ghost use Rattle.plugin.specs.Kit.{rules_of};
 ghost use Rattle.choose.specs.Kits.{JudgeAlike};
 ghost use Rattle.command.specs.Within.{AreWithinLimits};
 ghost use Rattle.command.specs.Words.{syntax_of};
-ghost use Rattle.streams.specs.declared.fault.RunFault.TheVariants as run_fault;
-ghost use Rattle.fault_line.specs.declared.fault.Fault.TheVariants.{Run};
 ghost use Rattle.fault_line.specs.Excerpt.{excerpt_of};
-ghost use Rattle.site.specs.Site.{IsToldAs, AreFromFiles, ArePlugins, AreSiteKits, IsPlugin, NoKit, ModuleRefused, WhyNoModules, WhyNoPlugin, WhyNoSite};
+ghost use Rattle.site.specs.Site.{IsToldAs, AreFromFiles, ArePlugins, AreSiteKits, IsPlugin, ModuleRefused, WhyNoModules, WhyNoPlugin, WhyNoSite};
 ghost use Rattle.site.specs.inside.Site.{WhyNoModule};
 ghost use Rattle.site.specs.Verdict.{front_of};
 
