@@ -14,11 +14,24 @@
 //! be counted, 2 at bad words, 3 for want of memory or of a place at the desk, and 4 when a file, a
 //! read or a write failed.
 //!
-//! What it does is `serving::answer`; here are the process's words, streams and files.
+//! Here are the process's words, streams and files. What is done with them is functions over
+//! streams and files that are handed in:
+//!
+//! - `program`: what is done from the words to the status: a run and a check by `site`, a storm by
+//!   `storm_site`, a translation by `translator`, and what `live` answers by `live_site`.
+//! - `live_site`: a cluster that is decided of by a site's plugins.
+//! - `storm_site`: a storm of a script by a site's plugins, from their files, or from their modules,
+//!   to the exit status, with the binders of `stand_in`, which stand in for a cluster.
 #![tactic(auto)]
 
+mod live_site;
+mod program;
+mod stand_in;
+mod storm_site;
+
 use command::arguments;
-use serving::{Folder, Input, Output, answer};
+use program::answer;
+use site::{Folder, Input, Output};
 use std::hash::RandomState;
 use std::process::ExitCode;
 
