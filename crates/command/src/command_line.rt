@@ -1,9 +1,10 @@
 //! What the program's words ask for.
-ghost use Rattle.std.specs.Prelude.{◌≡◌, ◌≤◌, Some, None, Err, true, false, map, option_map, IfErr, IfOk, IsOk};
-ghost use Rattle.clap.specs.Words.{app_of, new_app, found_of, rows_of, rule_of, subcommand_of, subcommand_rows_of, with_rule, with_subcommand};
+ghost use Rattle.std.specs.Prelude.{◌≡◌, ◌≤◌, Some, None, Err, true, false, map, option_map, IfErr, IfOk};
+ghost use Rattle.clap.specs.Words.{app_of, found_of, rows_of, rule_of, subcommand_of, subcommand_rows_of};
 ghost use Rattle.command.specs.Count.{most_of};
-ghost use Rattle.command.specs.Words.{are_taken, asked_of, check_command, command_line, file_rule, flag_rule, found, is_told, labels_found, meaning, number_found, option_rule, plan_found, program, run_command, scheduler_found, script_line, specs_found, specs_rule, storm_command, storm_found, storm_planned, syntax_of, translate_command, translate_found, translate_planned, live_command, live_found, live_planned, version_command};
-ghost use Rattle.command.specs.inside.Words.{IsLocal, Means, found_behind, named, planned};
+ghost use Rattle.command.specs.Words.{are_taken, asked_of, command_line, found, is_told, labels_found, meaning, number_found, plan_found, program, scheduler_found, specs_found, storm_found, storm_planned, syntax_of, translate_found, translate_planned, live_found, live_planned};
+ghost use Rattle.command.specs.inside.Built.{command_by, long_rule, rule_and_reach, rule_by, shape_and_reach};
+ghost use Rattle.command.specs.inside.Words.{Means, found_behind, named, planned};
 ghost use Rattle.command.specs.Within.{AreWithinLimits, IsPlan, IsStormPlan, IsWithin};
 
 use crate::asked::{LivePlan, Plan, Spec, StormPlan, TranslatePlan, Words};
@@ -17,143 +18,132 @@ use std::convert::AsStr;
 use std::rt::Env;
 use std::{env, io};
 
-// An option with one value.
-fn option<'a>(alloc: Global, name: &'a str) -> Arg<'a>
-    ensures rule { rule_of result ≡ option_rule name.entry.now }
+// What stands behind a command's name.
+#[derive(Clone, Copy)]
+enum Takes {
+    // An option of this name, with one value.
+    Option(&'static str),
+    // An option of this name, with no value.
+    Flag(&'static str),
+    // Any number of plugins.
+    Plugins,
+    // One module's file.
+    Module,
+}
+
+// A command's name, and what stands behind it.
+struct CommandRow {
+    name: &'static str,
+    takes: &'static [Takes],
+}
+
+// The program's commands.
+const COMMANDS: &[CommandRow] = &[
+    CommandRow {
+        name: "run",
+        takes: &[Takes::Option("workers"), Takes::Plugins],
+    },
+    CommandRow {
+        name: "explain",
+        takes: &[Takes::Option("workers"), Takes::Plugins],
+    },
+    CommandRow {
+        name: "storm",
+        takes: &[
+            Takes::Option("cycles"),
+            Takes::Option("binders"),
+            Takes::Flag("flaky"),
+            Takes::Plugins,
+        ],
+    },
+    CommandRow {
+        name: "check",
+        takes: &[Takes::Module],
+    },
+    CommandRow {
+        name: "translate",
+        takes: &[
+            Takes::Option("scheduler"),
+            Takes::Option("labels"),
+            Takes::Flag("by-uid"),
+            Takes::Flag("answers"),
+        ],
+    },
+    CommandRow {
+        name: "live",
+        takes: &[
+            Takes::Option("scheduler"),
+            Takes::Option("labels"),
+            Takes::Option("workers"),
+            Takes::Plugins,
+        ],
+    },
+    CommandRow {
+        name: "version",
+        takes: &[],
+    },
+];
+
+// An option, which has a value or none.
+fn option<'a>(alloc: Global, name: &'a str, action: ArgAction) -> Arg<'a>
+    ensures rule { rule_of result ≡ long_rule name.entry.now action }
     ensures local { result.global ≡ false }
 {
-    Arg::new(alloc, name).long(name).action(ArgAction::Set)
+    Arg::new(alloc, name).long(name).action(action)
 }
 
-// An option with no value.
-fn flag<'a>(alloc: Global, name: &'a str) -> Arg<'a>
-    ensures rule { rule_of result ≡ flag_rule name.entry.now }
-    ensures local { result.global ≡ false }
+// What `clap` is told of one thing that stands behind a command's name.
+fn argument<'a>(alloc: Global, takes: Takes) -> Arg<'a>
+    ensures { rule_and_reach result ≡ (rule_by takes, false) }
 {
-    Arg::new(alloc, name).long(name).action(ArgAction::SetTrue)
-}
-
-// Any number of plugins.
-fn plugins<'a>(alloc: Global) -> Arg<'a>
-    ensures rule { rule_of result ≡ specs_rule }
-    ensures local { result.global ≡ false }
-{
-    Arg::new(alloc, "SPEC").action(ArgAction::Append)
-}
-
-// The one argument of `check`.
-fn module<'a>(alloc: Global) -> Arg<'a>
-    ensures rule { rule_of result ≡ file_rule }
-    ensures local { result.global ≡ false }
-{
-    Arg::new(alloc, "MODULE").required(true)
-}
-
-// A command of this name, behind which nothing stands.
-fn bare_command<'a>(alloc: Global, name: &'a str) -> Command<'a>
-    ensures shape { app_of result ≡ new_app name.entry.now }
-    ensures local { IsLocal result }
-{
-    Command::new(alloc, name)
-}
-
-// A command with one argument more, where there was memory to make it. Of all that `clap` says of it
-// this is what is needed here. A command is taken as it was made, so that it is let go in this one
-// place, and whoever makes one has one end. It is large, so it isn't handed on by a `?`.
-fn with_argument<'a>(
-    command: Result<Command<'a>, AllocError>,
-    argument: Arg<'a>,
-) -> Result<Command<'a>, AllocError>
-    requires { argument.global ≡ false }
-    ensures shape { IfOk result (λ new. IsOk command.entry
-        × IfOk command.entry (λ old. app_of new ≡ with_rule (app_of old) (rule_of argument.entry))) }
-    ensures local { IfOk command.entry IsLocal → IfOk result IsLocal }
-{
-    match command {
-        Ok(command) => command.arg(argument),
-        Err(fault) => Err(fault),
+    match takes {
+        Takes::Option(name) => option(alloc, name, ArgAction::Set),
+        Takes::Flag(name) => option(alloc, name, ArgAction::SetTrue),
+        Takes::Plugins => Arg::new(alloc, "SPEC").action(ArgAction::Append),
+        Takes::Module => Arg::new(alloc, "MODULE").required(true),
     }
 }
 
-// A command with one command more below it, where there was memory to make both.
-fn with_command<'a>(
-    command: Result<Command<'a>, AllocError>,
-    below: Result<Command<'a>, AllocError>,
-) -> Result<Command<'a>, AllocError>
-    requires { IfOk below IsLocal }
-    ensures { IfOk result (λ new. IsOk command.entry × IsOk below.entry
-        × IfOk command.entry (λ line. IfOk below.entry (λ below.
-        app_of new ≡ with_subcommand (app_of line) (app_of below).top))) }
+// What `clap` is told of all that stands behind a command's name.
+fn arguments_of<'a>(alloc: Global, takes: &[Takes]) -> Result<Vec<Arg<'a>>, AllocError>
+    ensures { IfOk result (λ made. map rule_and_reach made.items
+        ≡ map (λ one. (rule_by one, false)) takes.now) }
 {
-    match command {
-        Ok(command) => match below {
-            Ok(below) => command.subcommand(below),
-            Err(fault) => Err(fault),
-        },
-        Err(fault) => Err(fault),
+    let Ok(mut made) = Vec::with_capacity(alloc, takes.len()) else {
+        return Err(AllocError);
+    };
+    for one in takes {
+        made.push_reserved(argument(alloc, *one));
     }
+    Ok(made)
 }
 
-// A command of this name that asks for a run: `run` or `explain`.
-fn run_command<'a>(alloc: Global, name: &'a str) -> Result<Command<'a>, AllocError>
-    ensures shape { IfOk result (λ command. app_of command ≡ run_command name.entry.now) }
-    ensures local { IfOk result IsLocal }
+// A command. It is large, and what a function holds of one is proved anew at each of its steps: so
+// all arguments are handed to it at once, and all commands to the program.
+fn command_of<'a>(alloc: Global, row: &CommandRow) -> Result<Command<'a>, AllocError>
+    ensures { IfOk result (λ command. shape_and_reach command ≡ ((command_by row.now).top, false)) }
 {
-    let run = Ok(bare_command(alloc, name));
-    let run = with_argument(run, option(alloc, "workers"));
-    with_argument(run, plugins(alloc))
+    let Ok(arguments) = arguments_of(alloc, row.takes) else {
+        return Err(AllocError);
+    };
+    Command::new(alloc, row.name).args(arguments)
 }
 
-// The command `storm`.
-fn storm_command<'a>(alloc: Global) -> Result<Command<'a>, AllocError>
-    ensures shape { IfOk result (λ command. app_of command ≡ storm_command) }
-    ensures local { IfOk result IsLocal }
+// Several commands.
+fn commands_of<'a>(alloc: Global, rows: &[CommandRow]) -> Result<Vec<Command<'a>>, AllocError>
+    ensures { IfOk result (λ made. map shape_and_reach made.items
+        ≡ map (λ row. ((command_by row).top, false)) rows.now) }
 {
-    let storm = Ok(bare_command(alloc, "storm"));
-    let storm = with_argument(storm, option(alloc, "cycles"));
-    let storm = with_argument(storm, option(alloc, "binders"));
-    let storm = with_argument(storm, flag(alloc, "flaky"));
-    with_argument(storm, plugins(alloc))
-}
-
-// The command `check`.
-fn check_command<'a>(alloc: Global) -> Result<Command<'a>, AllocError>
-    ensures shape { IfOk result (λ command. app_of command ≡ check_command) }
-    ensures local { IfOk result IsLocal }
-{
-    with_argument(Ok(bare_command(alloc, "check")), module(alloc))
-}
-
-// The command `translate`.
-fn translate_command<'a>(alloc: Global) -> Result<Command<'a>, AllocError>
-    ensures shape { IfOk result (λ command. app_of command ≡ translate_command) }
-    ensures local { IfOk result IsLocal }
-{
-    let translate = Ok(bare_command(alloc, "translate"));
-    let translate = with_argument(translate, option(alloc, "scheduler"));
-    let translate = with_argument(translate, option(alloc, "labels"));
-    let translate = with_argument(translate, flag(alloc, "by-uid"));
-    with_argument(translate, flag(alloc, "answers"))
-}
-
-// The command `live`.
-fn live_command<'a>(alloc: Global) -> Result<Command<'a>, AllocError>
-    ensures shape { IfOk result (λ command. app_of command ≡ live_command) }
-    ensures local { IfOk result IsLocal }
-{
-    let live = Ok(bare_command(alloc, "live"));
-    let live = with_argument(live, option(alloc, "scheduler"));
-    let live = with_argument(live, option(alloc, "labels"));
-    let live = with_argument(live, option(alloc, "workers"));
-    with_argument(live, plugins(alloc))
-}
-
-// The command `version`, behind which nothing stands.
-fn version_command<'a>(alloc: Global) -> Command<'a>
-    ensures shape { app_of result ≡ version_command }
-    ensures local { IsLocal result }
-{
-    bare_command(alloc, "version")
+    let Ok(mut made) = Vec::with_capacity(alloc, rows.len()) else {
+        return Err(AllocError);
+    };
+    for row in rows {
+        let Ok(command) = command_of(alloc, row) else {
+            return Err(AllocError);
+        };
+        made.push_reserved(command);
+    }
+    Ok(made)
 }
 
 // The program, of which one of its commands is wanted.
@@ -167,25 +157,14 @@ fn program<'a>(alloc: Global) -> Command<'a>
         .subcommand_required(true)
 }
 
-// The program with those of its commands that decide of a script. What a function holds of a command
-// is proved anew at each of its steps, so that the line is built by two.
-fn script_line<'a>(alloc: Global) -> Result<Command<'a>, AllocError>
-    ensures { IfOk result (λ command. app_of command ≡ script_line) }
-{
-    let line = with_command(Ok(program(alloc)), run_command(alloc, "run"));
-    let line = with_command(line, run_command(alloc, "explain"));
-    with_command(line, storm_command(alloc))
-}
-
 // The program's command line, as `clap` reads it.
 fn command_line<'a>(alloc: Global) -> Result<Command<'a>, AllocError>
     ensures { IfOk result (λ command. app_of command ≡ command_line) }
 {
-    let line = script_line(alloc);
-    let line = with_command(line, check_command(alloc));
-    let line = with_command(line, translate_command(alloc));
-    let line = with_command(line, live_command(alloc));
-    with_command(line, Ok(version_command(alloc)))
+    let Ok(commands) = commands_of(alloc, COMMANDS) else {
+        return Err(AllocError);
+    };
+    program(alloc).subcommands(commands)
 }
 
 // The plugins that were found behind a command.

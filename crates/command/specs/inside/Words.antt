@@ -1,8 +1,6 @@
 -- What a plan is in the words that were read, and what is asked for by a command's name and what was
 -- found behind it.
-use Rattle.std.specs.Prelude.{◌≡◌, ⊤, ℕ, false, List, map, codes, bytes_eq, Option, Some, None, option_map, Result, Ok, Err, if◌then◌else◌}
-use Rattle.clap.specs.declared.builder.command.Command.{Command}
-use Rattle.clap.specs.declared.builder.command.Command.TheViews.{out-Command}
+use Rattle.std.specs.Prelude.{◌≡◌, ⊤, ℕ, List, map, codes, bytes_eq, Option, Some, None, option_map, Result, Ok, Err, if◌then◌else◌}
 use Rattle.clap.specs.Words.{Row, Text, first_of}
 use Rattle.command.specs.declared.asked.Plan.{Plan}
 use Rattle.command.specs.declared.asked.Words.{Words}
@@ -15,10 +13,6 @@ use Rattle.command.specs.Words.{Asked, SpecSyntax, asked_of, check, explain, liv
 
 abbrev pub planned : Plan → ℕ × List SpecSyntax
 planned plan = (plan.workers, map syntax_of plan.specs.items)
-
--- none of a command's arguments is one of the commands below it too
-abbrev pub IsLocal : Command → Type 0
-IsLocal command = (out-Command command).has_globals ≡ false
 
 -- which command a name names
 abbrev pub named : Text → CommandName

@@ -1,11 +1,14 @@
-use Rattle.std.proofs.Common.{Ok}
-use Rattle.clap.specs.Words.{app_of}
-use Rattle.command.proofs.BuiltLemmas.{with_below}
+use Rattle.std.proofs.Common.{◌∙◌, ap}
+use Rattle.std.proofs.lemmas.Result.{IfOk-weaker}
+use Rattle.std.specs.List.{fold}
+use Rattle.clap.specs.Simple.{App}
+use Rattle.clap.specs.Words.{with_subcommand}
+use Rattle.command.specs.inside.Built.{commands}
+use Rattle.command.proofs.BuiltLemmas.{with_all_below}
 use Rattle.command.proofs.command_line.command_line.Goals as goal
 
 pub returns : goal.returns
 returns c =
-    let with_check = with_below app_of _ _ _ _ _ c.with_command-line.ensures c.script_line-line.ensures c.check_command.ensures.shape in
-    let with_translate = with_below app_of _ _ _ _ _ c.with_command-line-2.ensures with_check c.translate_command.ensures.shape in
-    let with_live = with_below app_of _ _ _ _ _ c.with_command-line-3.ensures with_translate c.live_command.ensures.shape in
-    with_below app_of _ _ (Ok c.version_command.result) _ _ c.with_command.ensures with_live c.version_command.ensures.shape
+    IfOk-weaker c.subcommands.result _ _ (λ new adds.
+    with_all_below (λ (app : App). app) c.program.result new c.in-Ok.commands.items commands adds c.in-Ok.ensures
+    ∙ ap (λ (app : App). fold (λ line one. with_subcommand line one.top) app commands) c.program.ensures) c.subcommands.ensures
