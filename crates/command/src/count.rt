@@ -4,6 +4,7 @@ ghost use Rattle.command.specs.Count.{most_of, name_of, number_for, unless_told}
 
 use crate::plugin_words::number_up_to;
 use quant::MAX_WORKERS;
+use std::fmt;
 use thiserror::Error;
 
 /// The most threads that run cycles in a storm, and the most that bind. The least is 1.
@@ -13,17 +14,23 @@ pub const MAX_STORM_THREADS: usize = 8;
 #[derive(Clone, Copy, Debug, Error)]
 pub enum Count {
     /// How many workers share each decision of a run.
-    #[error("N")]
     Workers,
     /// How many threads run cycles in a storm.
-    #[error("C")]
     Cycles,
     /// How many threads bind pods in a storm.
-    #[error("B")]
     Binders,
 }
 
 impl Count {
+    /// Its letter in the usage.
+    pub(crate) fn letter(self) -> &'static str {
+        match self {
+            Count::Workers => "N",
+            Count::Cycles => "C",
+            Count::Binders => "B",
+        }
+    }
+
     /// The option's name.
     pub(crate) fn name(self) -> &'static str
         ensures { result.now ≡ name_of self }
@@ -53,6 +60,12 @@ impl Count {
             Count::Workers => 1,
             Count::Cycles | Count::Binders => 2,
         }
+    }
+}
+
+impl fmt::Display for Count {
+    fn fmt<W: fmt::Write>(&self, f: &mut fmt::Formatter<W>) -> fmt::Result {
+        f.write_str(self.letter())
     }
 }
 

@@ -1,29 +1,44 @@
 //! What is wrong with words that ask for nothing, told to whoever wrote them.
-ghost use Rattle.std.specs.Prelude.{◌≡◌, ◌<◌, length, map, drop, option_map};
-ghost use Rattle.command.specs.Misuse.{at_end, at_equals, is_hyphened, is_option, misuse_in, misuse_of, part_of, read_behind, wrong_anything, wrong_behind_end, wrong_count, wrong_other, wrong_part, wrong_text, wrong_value, wrong_word};
+ghost use Rattle.std.specs.Prelude.{◌≡◌, ◌<◌, [], None, length, map, drop, option_map};
+ghost use Rattle.command.specs.Misuse.{at_end, at_equals, is_hyphened, is_option, misuse_by, misuse_in, misuse_of, part_of, read_behind, wrong_anything, wrong_behind_end, wrong_count, wrong_other, wrong_part, wrong_text, wrong_value, wrong_word};
 
 use crate::count::{Count, number_for};
 use crate::plugin_words::{cut, digits_up_to};
 use crate::verb::{Verb, Wanted};
 use quant::{MAX_FUEL, MAX_WEIGHT, Name};
 use std::convert::AsStr;
+use std::fmt;
 use thiserror::Error;
 
 /// The parts of a plugin, as a word spells it: `NAME:WEIGHT:FUEL:FILE`.
 #[derive(Clone, Copy, Debug, Error)]
 pub enum Part {
     /// The word lacks one of its three colons.
-    #[error("SPEC")]
     Spec,
     /// The name is none.
-    #[error("NAME")]
     Name,
     /// The weight is no number from 1 to 10.
-    #[error("WEIGHT")]
     Weight,
     /// The fuel is no number from 1 to 10^9.
-    #[error("FUEL")]
     Fuel,
+}
+
+impl Part {
+    // Its name in the usage.
+    fn name(self) -> &'static str {
+        match self {
+            Part::Spec => "SPEC",
+            Part::Name => "NAME",
+            Part::Weight => "WEIGHT",
+            Part::Fuel => "FUEL",
+        }
+    }
+}
+
+impl fmt::Display for Part {
+    fn fmt<W: fmt::Write>(&self, f: &mut fmt::Formatter<W>) -> fmt::Result {
+        f.write_str(self.name())
+    }
 }
 
 /// What is wrong with words that ask for nothing. Words are counted from 1, and the program's name
@@ -31,26 +46,35 @@ pub enum Part {
 #[derive(Clone, Copy, Debug, Error)]
 pub enum Misuse {
     /// The first word is no command, or there is none.
-    #[error(" COMMAND")]
     Command,
     /// The word of this number is none for this option, or it is the option and the last word.
-    #[error(" {0} of word {1}")]
     Number(Count, usize),
     /// This part of the word of this number isn't that of a plugin.
-    #[error(" {0} of word {1}")]
     Plugin(Part, usize),
     /// The word of this number is no scheduler's name, where one belongs, or it is the option for
     /// one and the last word.
-    #[error(" NAME of word {0}")]
     Scheduler(usize),
     /// The word of this number is no option, and nothing else belongs there.
-    #[error(" OPTION of word {0}")]
     Unknown(usize),
     /// Each word may stand where it does, but not all: an option or a name comes twice, there are
     /// more than 16 plugins, or `check` has another number of words than one, or `version` one at
     /// all.
-    #[error("")]
     Together,
+}
+
+// (A derive would write it by an exit for each, whose proof is dearer.)
+impl fmt::Display for Misuse {
+    fn fmt<W: fmt::Write>(&self, f: &mut fmt::Formatter<W>) -> fmt::Result {
+        let (what, number) = match self {
+            Misuse::Command => return f.write_str(" COMMAND"),
+            Misuse::Together => return Ok(()),
+            Misuse::Number(count, number) => (count.letter(), *number),
+            Misuse::Plugin(part, number) => (part.name(), *number),
+            Misuse::Scheduler(number) => ("NAME", *number),
+            Misuse::Unknown(number) => ("OPTION", *number),
+        };
+        write!(f, " {what} of word {number}")
+    }
 }
 
 /// What a word behind a command is read as.
@@ -252,9 +276,20 @@ pub fn misuse_of<S: AsStr>(args: &[S]) -> Misuse
     let Some(command) = args.first() else {
         return Misuse::Command;
     };
-    match Verb::named(command.as_str()) {
-        Some(verb) => misuse_behind(verb, args),
-        None if command.as_str() == "check" || command.as_str() == "version" => Misuse::Together,
-        None => Misuse::Command,
+    let name = command.as_str();
+    let Some(verb) = Verb::named(name) else {
+        return misuse_without_options(name);
+    };
+    misuse_behind(verb, args)
+}
+
+// What is wrong with words of which the first names no command with options.
+fn misuse_without_options(name: &str) -> Misuse
+    ensures { result ≡ misuse_by None name.now [] }
+{
+    if name == "check" || name == "version" {
+        Misuse::Together
+    } else {
+        Misuse::Command
     }
 }
