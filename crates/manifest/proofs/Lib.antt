@@ -2,4 +2,5 @@ pub mod Parsed
 pub mod Items
 pub mod Spelled
 pub mod RowParts
+pub mod Steps
 pub mod Timely

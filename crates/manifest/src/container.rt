@@ -15,9 +15,15 @@ impl Item for Request {
 
     #[tactic(auto, unfolding(crate::specs::Rows::container, crate::specs::Reading::request))]
     fn read(item: &Value, _before: &[Request], field: Field) -> Result<Request, LineFault> {
-        let found = parts(item, field, 2)?;
-        let cpu = part(found, 0, field)?;
-        let mem = part(found, 1, field)?;
+        let Some(found) = parts(item, 2) else {
+            return Err(LineFault::BadField(field));
+        };
+        let Some(cpu) = part(found, 0) else {
+            return Err(LineFault::BadField(field));
+        };
+        let Some(mem) = part(found, 1) else {
+            return Err(LineFault::BadField(field));
+        };
         let cpu = cpu_from(cpu, field)?;
         let mem = memory_from(mem, field)?;
         Ok(request_within(cpu, mem))

@@ -5,12 +5,14 @@ ghost use Rattle.serde_json.specs.Find.{get_item};
 ghost use Rattle.serde_json.specs.View.{view, items_view};
 ghost use Rattle.manifest.specs.declared.field.Field.{Field};
 ghost use Rattle.manifest.specs.declared.fault.LineFault.{LineFault};
+ghost use Rattle.manifest.specs.declared.fault.LineFault.TheVariants.{BadField};
+ghost use Rattle.std.specs.Option.{ok_or};
 ghost use Rattle.manifest.specs.Reading.{Gives, Answers, at, at_or};
 ghost use Rattle.manifest.specs.Item.{items, each, list, parts, part};
 
 use crate::fault::LineFault;
 use crate::field::Field;
-use crate::reading::{member, text};
+use crate::reading::member;
 use quant::AtMost;
 use serde_json::Value;
 
@@ -97,28 +99,30 @@ fn items(value: &Value, field: Field, least: usize, most: usize) -> Result<&[Val
     Ok(found.as_slice())
 }
 
-// The parts of an item that is an array of so many.
+// The parts of an item, if it is an array of so many.
 #[tactic(auto, unfolding(crate::specs::Item::parts), using(crate::proofs::Items::count_of_items_view))]
-pub(crate) fn parts(item: &Value, field: Field, count: usize) -> Result<&[Value], LineFault>
-    ensures { Gives (λ found. items_view found.now) result (parts count field (view item.now)) }
+pub(crate) fn parts(item: &Value, count: usize) -> Option<&[Value]>
+    ensures { (field : Field) → parts count field (view item.now)
+        ≡ ok_or (option_map (λ found. items_view found.now) result) (BadField field) }
 {
     let Some(found) = item.as_array() else {
-        return Err(LineFault::BadField(field));
+        return None;
     };
     if found.len() != count {
-        return Err(LineFault::BadField(field));
+        return None;
     }
-    Ok(found.as_slice())
+    Some(found.as_slice())
 }
 
-// The text that is the part at a place.
-#[tactic(auto, unfolding(crate::specs::Item::part))]
-pub(crate) fn part(found: &[Value], place: usize, field: Field) -> Result<&str, LineFault>
-    ensures { Gives (λ s. s.now) result (part place field (items_view found.now)) }
+// The text that is the part at a place, if there is one.
+#[tactic(auto, unfolding(crate::specs::Item::part, crate::specs::Reading::text))]
+pub(crate) fn part(found: &[Value], place: usize) -> Option<&str>
+    ensures { (field : Field) → part place field (items_view found.now)
+        ≡ ok_or (option_map (λ s. s.now) result) (BadField field) }
 {
     match item_at(found, place) {
-        Some(item) => text(item, field),
-        None => Err(LineFault::BadField(field)),
+        Some(item) => item.as_str(),
+        None => None,
     }
 }
 

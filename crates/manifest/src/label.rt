@@ -15,11 +15,21 @@ impl Item for Label {
 
     #[tactic(auto, unfolding(crate::specs::Rows::label))]
     fn read(item: &Value, before: &[Label], field: Field) -> Result<Label, LineFault> {
-        let found = parts(item, field, 2)?;
-        let key = part(found, 0, field)?;
-        let value = part(found, 1, field)?;
-        let key = name_from(key, field)?;
-        let value = text_from(value, field)?;
+        let Some(found) = parts(item, 2) else {
+            return Err(LineFault::BadField(field));
+        };
+        let Some(key) = part(found, 0) else {
+            return Err(LineFault::BadField(field));
+        };
+        let Some(value) = part(found, 1) else {
+            return Err(LineFault::BadField(field));
+        };
+        let Some(key) = name_from(key) else {
+            return Err(LineFault::BadField(field));
+        };
+        let Some(value) = text_from(value) else {
+            return Err(LineFault::BadField(field));
+        };
         if has_key(before, &key) {
             return Err(LineFault::BadField(field));
         }

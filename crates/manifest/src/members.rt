@@ -21,7 +21,7 @@ pub(crate) fn text_at(object: &Value, field: Field) -> Result<&str, LineFault>
 pub(crate) fn name_at(object: &Value, field: Field) -> Result<Name, LineFault>
     ensures { Answers result (at field name (view object.now)) }
 {
-    name_from(text_at(object, field)?, field)
+    name_from(text_at(object, field)?).ok_or(LineFault::BadField(field))
 }
 
 // The number in a field, from low to high.

@@ -1,6 +1,9 @@
 //! From a JSON value to what one field says.
 ghost use Rattle.std.specs.Prelude.{◌≡◌, ◌≤◌, ◌^◌, IfOk};
+ghost use Rattle.std.specs.Option.{ok_or};
 ghost use Rattle.serde_json.specs.View.{view, number_view};
+ghost use Rattle.manifest.specs.declared.field.Field.{Field};
+ghost use Rattle.manifest.specs.declared.fault.LineFault.TheVariants.{BadField};
 ghost use Rattle.manifest.specs.Reading.{Gives, Answers, parsed, member, text, integer, natural, signed, flag, name_from, text_from, name, cpu_from, memory_from};
 
 use crate::fault::LineFault;
@@ -82,20 +85,20 @@ pub(crate) fn flag(value: &Value, field: Field) -> Result<bool, LineFault>
     value.as_bool().ok_or(LineFault::BadField(field))
 }
 
-// The name that a text is.
+// The name that a text is, if it is one.
 #[tactic(auto, unfolding(crate::specs::Reading::name_from))]
-pub(crate) fn name_from(text: &str, field: Field) -> Result<Name, LineFault>
-    ensures { Answers result (name_from field text.now) }
+pub(crate) fn name_from(text: &str) -> Option<Name>
+    ensures { (field : Field) → name_from field text.now ≡ ok_or result (BadField field) }
 {
-    Name::new(text.as_bytes()).map_err(|_| LineFault::BadField(field))
+    Name::new(text.as_bytes()).ok()
 }
 
-// The text beside a key that a text is.
+// The text beside a key that a text is, if it is one.
 #[tactic(auto, unfolding(crate::specs::Reading::text_from))]
-pub(crate) fn text_from(text: &str, field: Field) -> Result<Text, LineFault>
-    ensures { Answers result (text_from field text.now) }
+pub(crate) fn text_from(text: &str) -> Option<Text>
+    ensures { (field : Field) → text_from field text.now ≡ ok_or result (BadField field) }
 {
-    Text::new(text.as_bytes()).map_err(|_| LineFault::BadField(field))
+    Text::new(text.as_bytes()).ok()
 }
 
 // The amount of CPU that a text spells.
@@ -104,7 +107,10 @@ pub(crate) fn cpu_from(text: &str, field: Field) -> Result<Cpu, LineFault>
     ensures value { Answers result (cpu_from field text.now) }
     ensures bounded { IfOk result (λ cpu. cpu.0 ≤ 2 ^ 30) }
 {
-    read_cpu(text.as_bytes()).map_err(|_| LineFault::Quantity(field))
+    match read_cpu(text.as_bytes()) {
+        Ok(cpu) => Ok(cpu),
+        Err(_) => Err(LineFault::Quantity(field)),
+    }
 }
 
 // The amount of memory that a text spells.
@@ -113,5 +119,8 @@ pub(crate) fn memory_from(text: &str, field: Field) -> Result<Bytes, LineFault>
     ensures value { Answers result (memory_from field text.now) }
     ensures bounded { IfOk result (λ mem. mem.0 ≤ 2 ^ 44) }
 {
-    read_bytes(text.as_bytes()).map_err(|_| LineFault::Quantity(field))
+    match read_bytes(text.as_bytes()) {
+        Ok(mem) => Ok(mem),
+        Err(_) => Err(LineFault::Quantity(field)),
+    }
 }

@@ -16,12 +16,24 @@ impl Item for Taint {
 
     #[tactic(auto, unfolding(crate::specs::Rows::taint))]
     fn read(item: &Value, before: &[Taint], field: Field) -> Result<Taint, LineFault> {
-        let found = parts(item, field, 3)?;
-        let key = part(found, 0, field)?;
-        let value = part(found, 1, field)?;
-        let effect = part(found, 2, field)?;
-        let key = name_from(key, field)?;
-        let value = text_from(value, field)?;
+        let Some(found) = parts(item, 3) else {
+            return Err(LineFault::BadField(field));
+        };
+        let Some(key) = part(found, 0) else {
+            return Err(LineFault::BadField(field));
+        };
+        let Some(value) = part(found, 1) else {
+            return Err(LineFault::BadField(field));
+        };
+        let Some(effect) = part(found, 2) else {
+            return Err(LineFault::BadField(field));
+        };
+        let Some(key) = name_from(key) else {
+            return Err(LineFault::BadField(field));
+        };
+        let Some(value) = text_from(value) else {
+            return Err(LineFault::BadField(field));
+        };
         let Some(effect) = effect_named(effect) else {
             return Err(LineFault::BadField(field));
         };

@@ -17,11 +17,21 @@ impl Item for Toleration {
 
     #[tactic(auto, unfolding(crate::specs::Rows::toleration, crate::specs::inside::Row::toleration_of))]
     fn read(item: &Value, _before: &[Toleration], field: Field) -> Result<Toleration, LineFault> {
-        let found = parts(item, field, 4)?;
-        let key = part(found, 0, field)?;
-        let operator = part(found, 1, field)?;
-        let value = part(found, 2, field)?;
-        let effect = part(found, 3, field)?;
+        let Some(found) = parts(item, 4) else {
+            return Err(LineFault::BadField(field));
+        };
+        let Some(key) = part(found, 0) else {
+            return Err(LineFault::BadField(field));
+        };
+        let Some(operator) = part(found, 1) else {
+            return Err(LineFault::BadField(field));
+        };
+        let Some(value) = part(found, 2) else {
+            return Err(LineFault::BadField(field));
+        };
+        let Some(effect) = part(found, 3) else {
+            return Err(LineFault::BadField(field));
+        };
         toleration_of(key, operator, value, effect, field)
     }
 }
@@ -37,11 +47,15 @@ fn toleration_of(
 ) -> Result<Toleration, LineFault>
     ensures { Answers result (toleration_of field key.now operator.now value.now effect.now) }
 {
-    let key = text_from(key, field)?;
+    let Some(key) = text_from(key) else {
+        return Err(LineFault::BadField(field));
+    };
     let Some(operator) = operator_named(operator) else {
         return Err(LineFault::BadField(field));
     };
-    let value = text_from(value, field)?;
+    let Some(value) = text_from(value) else {
+        return Err(LineFault::BadField(field));
+    };
     let Some(effect) = effect_or_none(effect) else {
         return Err(LineFault::BadField(field));
     };
