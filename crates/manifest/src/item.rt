@@ -12,7 +12,6 @@ ghost use Rattle.manifest.specs.Item.{items, each, list, parts, part};
 
 use crate::fault::LineFault;
 use crate::field::Field;
-use crate::reading::member;
 use quant::AtMost;
 use serde_json::Value;
 
@@ -36,7 +35,10 @@ pub(crate) fn fill_at<T: Item, const N: usize>(
     requires { row.old ≡ [] }
     ensures { Gives (λ _. row.new) result (at field (list 1 N T.reading) (view object.now)) }
 {
-    fill_from(row, member(object, field)?, field, 1)
+    match object.get(field.key()) {
+        Some(value) => fill_from(row, value, field, 1),
+        None => Err(LineFault::BadField(field)),
+    }
 }
 
 // Fills an empty row from a field that may be absent.
@@ -78,10 +80,14 @@ fn fill<T: Item, const N: usize>(
     requires { length row.old + length found.now ≤ N }
     ensures { Gives (λ _. row.new) result (each (T.reading field) row.old (items_view found.now)) }
 {
-    row.reserve(found.len())?;
+    if row.reserve(found.len()).is_err() {
+        return Err(LineFault::NoMemory);
+    }
     for item in found {
         let next = T::read(item, row.as_slice(), field)?;
-        row.push(next)?;
+        if row.push(next).is_err() {
+            return Err(LineFault::NoMemory);
+        }
     }
     Ok(())
 }

@@ -80,7 +80,9 @@ fn read_object(alloc: Global, line: &[u8]) -> Result<Command, LineFault>
 fn command_of(alloc: Global, object: &Value) -> Result<Command, LineFault>
     ensures { Answers result (command_in (view object.now)) }
 {
-    let op = text_at(object, Field::Op)?;
+    let Some(op) = text_at(object, Field::Op) else {
+        return Err(LineFault::BadField(Field::Op));
+    };
     let Some(operation) = Operation::named(op) else {
         return Err(LineFault::BadField(Field::Op));
     };

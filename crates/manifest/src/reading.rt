@@ -1,10 +1,10 @@
 //! From a JSON value to what one field says.
-ghost use Rattle.std.specs.Prelude.{◌≡◌, ◌≤◌, ◌^◌, IfOk};
+ghost use Rattle.std.specs.Prelude.{◌≡◌, ◌≤◌, ◌^◌, IfOk, option_map};
 ghost use Rattle.std.specs.Option.{ok_or};
 ghost use Rattle.serde_json.specs.View.{view, number_view};
 ghost use Rattle.manifest.specs.declared.field.Field.{Field};
 ghost use Rattle.manifest.specs.declared.fault.LineFault.TheVariants.{BadField};
-ghost use Rattle.manifest.specs.Reading.{Gives, Answers, parsed, member, text, integer, natural, signed, flag, name_from, text_from, name, cpu_from, memory_from};
+ghost use Rattle.manifest.specs.Reading.{Gives, Answers, parsed, integer, natural, signed, flag, name_from, text_from, name, cpu_from, memory_from};
 
 use crate::fault::LineFault;
 use crate::field::Field;
@@ -24,29 +24,16 @@ pub(crate) fn parse(alloc: Global, line: &[u8]) -> Result<Value, LineFault>
     }
 }
 
-// The value of a field that has to be there.
-#[tactic(auto, unfolding(crate::specs::Reading::member))]
-pub(crate) fn member(object: &Value, field: Field) -> Result<&Value, LineFault>
-    ensures { Gives (λ value. view value.now) result (member field (view object.now)) }
-{
-    object.get(field.key()).ok_or(LineFault::BadField(field))
-}
-
-// A text.
-#[tactic(auto, unfolding(crate::specs::Reading::text))]
-pub(crate) fn text(value: &Value, field: Field) -> Result<&str, LineFault>
-    ensures { Gives (λ s. s.now) result (text field (view value.now)) }
-{
-    value.as_str().ok_or(LineFault::BadField(field))
-}
-
 // A number from low to high.
 #[tactic(auto, unfolding(crate::specs::Reading::natural))]
 pub(crate) fn natural(value: &Value, field: Field, low: u64, high: u64) -> Result<u64, LineFault>
     ensures value { Answers result (natural low high field (view value.now)) }
     ensures bounded { IfOk result (λ n. n ≤ high) }
 {
-    match integer(value, field)?.as_u64() {
+    let Some(number) = integer(value) else {
+        return Err(LineFault::BadField(field));
+    };
+    match number.as_u64() {
         Some(n) if low <= n && n <= high => Ok(n),
         _ => Err(LineFault::OverLimit(field)),
     }
@@ -57,24 +44,28 @@ pub(crate) fn natural(value: &Value, field: Field, low: u64, high: u64) -> Resul
 pub(crate) fn signed(value: &Value, field: Field) -> Result<i32, LineFault>
     ensures { Answers result (signed field (view value.now)) }
 {
-    match integer(value, field)?.as_i64() {
+    let Some(number) = integer(value) else {
+        return Err(LineFault::BadField(field));
+    };
+    match number.as_i64() {
         Some(n) if i64::from(i32::MIN) <= n && n <= i64::from(i32::MAX) => Ok(n as i32),
         _ => Err(LineFault::OverLimit(field)),
     }
 }
 
-// A number that is an integer of 64 bits.
+// The number, if it is an integer of 64 bits.
 #[tactic(auto, unfolding(crate::specs::Reading::integer))]
-fn integer(value: &Value, field: Field) -> Result<&Number, LineFault>
-    ensures { Gives (λ number. number_view number.now) result (integer field (view value.now)) }
+fn integer(value: &Value) -> Option<&Number>
+    ensures { (field : Field) → integer field (view value.now)
+        ≡ ok_or (option_map (λ number. number_view number.now) result) (BadField field) }
 {
     let Some(number) = value.as_number() else {
-        return Err(LineFault::BadField(field));
+        return None;
     };
     if number.is_f64() {
-        return Err(LineFault::BadField(field));
+        return None;
     }
-    Ok(number)
+    Some(number)
 }
 
 // Yes or no.

@@ -47,7 +47,10 @@ pub(crate) fn node_with(
         unschedulable: false,
     };
     fill_node(&mut node, object)?;
-    Ok(SharedNode::new(alloc, node)?)
+    match SharedNode::new(alloc, node) {
+        Ok(row) => Ok(row),
+        Err(_) => Err(LineFault::NoMemory),
+    }
 }
 
 // Fills the rest of a node's row, by reference, so that one exit drops it.
@@ -96,7 +99,10 @@ pub(crate) fn pod_with(
         tolerations: AtMost::new(alloc),
     };
     fill_pod(&mut pod, object, asked)?;
-    Ok(SharedPod::new(alloc, pod)?)
+    match SharedPod::new(alloc, pod) {
+        Ok(row) => Ok(row),
+        Err(_) => Err(LineFault::NoMemory),
+    }
 }
 
 // Fills the rest of a pod's row, by reference, so that one exit drops it.
