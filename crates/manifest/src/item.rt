@@ -98,14 +98,17 @@ fn items(value: &Value, field: Field, least: usize, most: usize) -> Result<&[Val
     ensures value { Gives (λ found. items_view found.now) result (items least most field (view value.now)) }
     ensures few { IfOk result (λ found. length found.now ≤ most) }
 {
-    let found = value.as_array().ok_or(LineFault::BadField(field))?;
+    let Some(found) = value.as_array() else {
+        return Err(LineFault::BadField(field));
+    };
     if found.len() < least || most < found.len() {
         return Err(LineFault::OverLimit(field));
     }
     Ok(found.as_slice())
 }
 
-// The parts of an item, if it is an array of so many.
+// The parts of an item, if it is an array of so many. (Who reads an item knows its field, and tells
+// the fault by a `let .. else`, whose proof is half of that of a `?`.)
 #[tactic(auto, unfolding(crate::specs::Item::parts), using(crate::proofs::Items::count_of_items_view))]
 pub(crate) fn parts(item: &Value, count: usize) -> Option<&[Value]>
     ensures { (field : Field) → parts count field (view item.now)
