@@ -107,8 +107,7 @@ fn items(value: &Value, field: Field, least: usize, most: usize) -> Result<&[Val
     Ok(found.as_slice())
 }
 
-// The parts of an item, if it is an array of so many. (Who reads an item knows its field, and tells
-// the fault by a `let .. else`, whose proof is half of that of a `?`.)
+// The parts of an item, if it is an array of so many.
 #[tactic(auto, unfolding(crate::specs::Item::parts), using(crate::proofs::Items::count_of_items_view))]
 pub(crate) fn parts(item: &Value, count: usize) -> Option<&[Value]>
     ensures { (field : Field) → parts count field (view item.now)

@@ -12,6 +12,6 @@ loop-item-preserved g c =
     let room = c.loop-item.invariant.room in record {
       room = omega (arith, long, room);
       same = c.loop-item.invariant.same
-          ∙ one_read read row c.as_slice.result.now c.push.new.self c.args.found.now c.loop-item.item-index c.item-item.result c.in_ok-next.next
+          ∙ one_read (g.T.Item.reading c.args.field) row c.as_slice.result.now c.push.new.self c.args.found.now c.loop-item.item-index c.item-item.result c.in_ok-next.next
           c.loop-item-test.true c.item-item.is c.as_slice.ensures.value c.in_ok-next.ensures pushed;
     }
