@@ -1,5 +1,5 @@
 -- Steps that put names, for which memory may have lacked.
-use Rattle.std.proofs.Common.{◌≡◌, Bool, true}
+use Rattle.std.proofs.Common.{◌≡◌, ℕ, Bool, true, List, ◌++◌, ap, ◌∙◌, append_assoc}
 
 -- what holds behind a step is used
 pub so : {a b : Bool} {P Q : Type 0} → (b ≡ true → (a ≡ true) × P) → (P → Q) → b ≡ true → (a ≡ true) × Q
@@ -17,3 +17,8 @@ pub step : {a b c : Bool} {P Q R : Type 0} → (b ≡ true → (a ≡ true) × P
 step f g h w =
     let q = g w in
     let p = f q.0 in (p.0, h p.1 q.1)
+
+-- a text behind another
+pub behind : {a b c : Bool} {y z : List ℕ} (x s t : List ℕ) → (b ≡ true → (a ≡ true) × (y ≡ x ++ s)) → (c ≡ true → (b ≡ true) × (z ≡ y ++ t))
+    → c ≡ true → (a ≡ true) × (z ≡ x ++ (s ++ t))
+behind x s t f g = step f g (λ p q. q ∙ ap (λ l. l ++ t) p ∙ append_assoc x s t)

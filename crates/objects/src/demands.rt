@@ -10,7 +10,7 @@ ghost use Rattle.objects.specs.inside.Otherwise.{otherwise};
 ghost use Rattle.objects.specs.inside.Puts.{Puts};
 
 use crate::amounts::amount_of;
-use crate::left_out::{Names, put_each_if, put_left_out};
+use crate::left_out::{Names, put_left_out, put_left_out_if};
 use crate::quantity::Rounding;
 use crate::reading::{field, has, is_given, spelled, within};
 use crate::resource::Resource;
@@ -114,23 +114,20 @@ fn put_placement(out: &mut Names, spec: &Value, is_told: bool)
         ++ left_out_if (is_given (field (codes "resourceClaims") (view spec.now))) (codes "resource claims")) }
 {
     let selector = field(spec, "nodeSelector");
+    put_left_out_if(out, is_untold(selector, is_told), "node selector");
     let nodes = affinity(spec, "nodeAffinity", REQUIRED);
-    put_each_if(
-        out,
-        &[
-            (is_untold(selector, is_told), "node selector"),
-            (is_untold(nodes, is_told), "required node affinity"),
-            (asks(spec, "podAffinity", REQUIRED), "required pod affinity"),
-            (
-                asks(spec, "podAntiAffinity", REQUIRED),
-                "required pod anti-affinity",
-            ),
-            (!is_read_affinity(field(spec, "affinity")), "affinity"),
-            (asks_spread(spec, false), "required topology spread"),
-            (is_given(field(spec, "schedulingGates")), "scheduling gates"),
-            (is_given(field(spec, "resourceClaims")), "resource claims"),
-        ],
-    )
+    put_left_out_if(out, is_untold(nodes, is_told), "required node affinity");
+    let beside = asks(spec, "podAffinity", REQUIRED);
+    put_left_out_if(out, beside, "required pod affinity");
+    let apart = asks(spec, "podAntiAffinity", REQUIRED);
+    put_left_out_if(out, apart, "required pod anti-affinity");
+    let is_read = is_read_affinity(field(spec, "affinity"));
+    put_left_out_if(out, !is_read, "affinity");
+    put_left_out_if(out, asks_spread(spec, false), "required topology spread");
+    let gates = is_given(field(spec, "schedulingGates"));
+    put_left_out_if(out, gates, "scheduling gates");
+    let claims = is_given(field(spec, "resourceClaims"));
+    put_left_out_if(out, claims, "resource claims")
 }
 
 // Puts the names of what it can do without.
@@ -139,21 +136,12 @@ pub(crate) fn put_wishes(out: &mut Names, spec: &Value, is_told: bool)
     ensures { Puts out.old out.new (wishes is_told (view spec.now)) }
 {
     let nodes = affinity(spec, "nodeAffinity", PREFERRED);
-    put_each_if(
-        out,
-        &[
-            (is_untold(nodes, is_told), "preferred node affinity"),
-            (
-                asks(spec, "podAffinity", PREFERRED),
-                "preferred pod affinity",
-            ),
-            (
-                asks(spec, "podAntiAffinity", PREFERRED),
-                "preferred pod anti-affinity",
-            ),
-            (asks_spread(spec, true), "preferred topology spread"),
-        ],
-    )
+    put_left_out_if(out, is_untold(nodes, is_told), "preferred node affinity");
+    let beside = asks(spec, "podAffinity", PREFERRED);
+    put_left_out_if(out, beside, "preferred pod affinity");
+    let apart = asks(spec, "podAntiAffinity", PREFERRED);
+    put_left_out_if(out, apart, "preferred pod anti-affinity");
+    put_left_out_if(out, asks_spread(spec, true), "preferred topology spread")
 }
 
 // Puts the names of the volumes that tie a pod to a node, but for those that are claimed, where

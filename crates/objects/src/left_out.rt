@@ -1,5 +1,5 @@
 //! The names of what a line doesn't tell of an object.
-ghost use Rattle.std.specs.Prelude.{◌≡◌, ◌≤◌, [], true, drop, length, take, flat_map, IfOk};
+ghost use Rattle.std.specs.Prelude.{◌≡◌, ◌≤◌, [], true, drop, length, take, IfOk};
 ghost use Rattle.std.specs.List.{list_all};
 ghost use Rattle.quant.specs.Name.{is_name_byte};
 ghost use Rattle.objects.specs.LeftOut.{shown, left_out, left_out_if, refused, fault_text, told_names, up_to_marks};
@@ -76,15 +76,6 @@ pub(crate) fn put_left_out_if(out: &mut Names, is: bool, what: &str)
 {
     if is {
         put_left_out(out, what, b"")
-    }
-}
-
-// Puts those of these names that are there, none of which has a name of its own.
-pub(crate) fn put_each_if(out: &mut Names, names: &[(bool, &str)])
-    ensures { Puts out.old out.new (flat_map (λ name. left_out_if name.0 name.1.now) names.now) }
-{
-    for (is, what) in names {
-        put_left_out_if(out, *is, what);
     }
 }
 

@@ -16,7 +16,7 @@ ghost use Rattle.objects.specs.inside.Telling.{how_told, as_told};
 use crate::change::{Change, Kind};
 use crate::demands::{REQUIRED, asks, put_demands};
 use crate::fault::{ObjectFault, Why};
-use crate::left_out::{Names, put_each_if, put_left_out, put_left_out_if, put_refused};
+use crate::left_out::{Names, put_left_out, put_left_out_if, put_refused};
 use crate::node_row::node_row;
 use crate::pod_row::{pod_name, pod_row};
 use crate::reading::{field, name_at, part_of, spelled, text_or, within};
@@ -259,19 +259,10 @@ fn put_bound_left_out(alloc: Global, out: &mut Names, spec: &Value, pod: &Value)
     ensures { Puts out.old out.new (bound_left_out (view spec.now) (view pod.now)) }
 {
     put_more_left_out(alloc, out, pod, spec);
-    put_each_if(
-        out,
-        &[
-            (
-                !is_held_read(pod, spec),
-                "what its status says that it holds",
-            ),
-            (
-                asks(spec, "podAntiAffinity", REQUIRED),
-                "required pod anti-affinity",
-            ),
-        ],
-    )
+    let is_read = is_held_read(pod, spec);
+    put_left_out_if(out, !is_read, "what its status says that it holds");
+    let apart = asks(spec, "podAntiAffinity", REQUIRED);
+    put_left_out_if(out, apart, "required pod anti-affinity")
 }
 
 // Whether a pod has ended.

@@ -1,16 +1,12 @@
-use Rattle.std.proofs.Common.{append_assoc, append-nil}
 use Rattle.objects.specs.Demands.{wishes}
-use Rattle.objects.proofs.Puts.{so}
+use Rattle.objects.proofs.Puts.{behind}
 use Rattle.objects.proofs.demands.put_wishes.Goals as goal
 
 pub returns : goal.returns
 unfolding wishes
 returns c =
-    so c.put_each_if.ensures (λ put. rw (
-      put,
-      c.is_untold.ensures,
-      c.affinity-nodes.ensures,
-      c.asks.ensures,
-      c.asks-2.ensures,
-      c.asks_spread.ensures,
-    ) (simp (append_assoc, append-nil)))
+    let nodes = rw (c.is_untold.ensures, c.affinity-nodes.ensures) at c.put_left_out_if.ensures in
+    let beside = rw c.asks-beside.ensures at c.put_left_out_if-2.ensures in
+    let apart = rw c.asks-apart.ensures at c.put_left_out_if-3.ensures in
+    let spread = rw c.asks_spread.ensures at c.put_left_out_if-4.ensures in
+    behind _ _ _ (behind _ _ _ (behind _ _ _ nodes beside) apart) spread
