@@ -1,5 +1,5 @@
 -- What is read of items, one behind the other.
-use Rattle.std.proofs.Common.{◌≡◌, ℕ, suc, ◌+◌, ◌<◌, ◌≤◌, codes, List, [], ◌∷◌, ◌++◌, length, get_or, drop, Result, Ok, ap, sym, ◌∙◌, add-one}
+use Rattle.std.proofs.Common.{◌≡◌, ℕ, suc, ◌+◌, ◌<◌, ◌≤◌, Bool, true, ◌&&◌, codes, List, [], ◌∷◌, ◌++◌, length, get_or, drop, Result, Ok, ap, sym, ◌∙◌, add-one}
 use Rattle.std.proofs.Math.Seq.{drop-cons}
 use Rattle.std.proofs.lemmas.List.{drop_all}
 use Rattle.quant.specs.declared.amount.Request.{Request}
@@ -10,6 +10,7 @@ use Rattle.serde_json.specs.declared.value.Value.{Value}
 use Rattle.objects.specs.Containers.{held, or_held}
 use Rattle.objects.specs.Labels.{Kept, with_item}
 use Rattle.objects.specs.LeftOut.{Fault}
+use Rattle.objects.specs.PodRequest.{are_read, is_status_read}
 use Rattle.objects.specs.PodRow.{toleration_of, tolerations_of}
 use Rattle.objects.specs.Quantity.{◌>>=◌}
 use Rattle.objects.specs.Reading.{each, spelled}
@@ -31,6 +32,11 @@ pub each_begins : {A : Type 0} (f : List A → Data → Result A Fault) (xs : Li
     → each f before (items_view (drop i xs)) ≡ (f before (view x) >>= λ y. each f (before ++ y ∷ []) (items_view (drop (i + 1) xs)))
 each_begins f xs i x before h is = ap (λ ys. each f before (items_view ys)) (in_front xs i x h is)
 
+-- no item more
+pub each_done : {A : Type 0} (f : List A → Data → Result A Fault) (xs : List Value) (i : ℕ) (before : List A) → length xs ≤ i
+    → each f before (items_view (drop i xs)) ≡ Ok before
+each_done f xs i before h = ap (λ ys. each f before (items_view ys)) (drop_all i xs h)
+
 -- one toleration more, and no more
 pub toleration_more : (xs : List Value) (i : ℕ) (x : Value) (before after : Kept (List Toleration)) → i < length xs → x ≡ get_or xs i x
     → with_item (codes "toleration of ") (spelled (codes "key") (view x)) before (toleration_of before.item (view x)) ≡ after
@@ -46,3 +52,12 @@ pub status_more : (name : List ℕ) (xs : List Value) (i : ℕ) (x : Value) (mos
     → or_held name most (view x) ≡ Ok more → held name most (items_view (drop i xs)) ≡ held name more (items_view (drop (i + 1) xs))
 status_more name xs i x most more h is e =
     ap (λ ys. held name most (items_view ys)) (in_front xs i x h is) ∙ ap (λ r. r >>= λ m. held name m (items_view (drop (i + 1) xs))) e
+
+-- one status more that is read, and one that isn't
+pub read_more : (xs : List Value) (i : ℕ) (x : Value) (is : Bool) → i < length xs → x ≡ get_or xs i x → is ≡ is_status_read (codes "containerStatuses") (view x)
+    → are_read (items_view (drop i xs)) ≡ (is && are_read (items_view (drop (i + 1) xs)))
+read_more xs i x is h at e =
+    ap (λ ys. are_read (items_view ys)) (in_front xs i x h at) ∙ ap (λ b. b && are_read (items_view (drop (i + 1) xs))) (sym e)
+
+pub read_done : (xs : List Value) (i : ℕ) → length xs ≤ i → are_read (items_view (drop i xs)) ≡ true
+read_done xs i h = ap (λ ys. are_read (items_view ys)) (drop_all i xs h)

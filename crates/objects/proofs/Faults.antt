@@ -8,7 +8,7 @@ use Rattle.objects.specs.LeftOut.{Fault}
 use Rattle.objects.specs.Quantity.{◌>>=◌}
 use Rattle.objects.specs.Site.{Telling}
 use Rattle.objects.specs.Told.{gone_if, kept_back, waiting_told}
-use Rattle.objects.specs.inside.Answers.{Fails, Gives, Answers}
+use Rattle.objects.specs.inside.Answers.{Fails, Refuses, Gives, Answers}
 
 -- what keeps a pod back that waits
 pub held_back : (how : Telling) (spec pod : Data) (out : List ℕ) → ¬ (out ≡ []) → out ≡ kept_back how.site spec pod
@@ -22,6 +22,11 @@ pub fault_first : {X Y Z : Type 0} (view : X → Z) (result : Result X ObjectFau
     → result ≡ Err e → Fails e r → Gives view result (r >>= f)
 fault_first view result NoMemory r f is h = rw is tt
 fault_first view result (Refused why field) r f is h = rw is (ap (λ x. x >>= f) h)
+
+pub refusal_first : {X Y Z : Type 0} (view : X → Z) (result : Result X ObjectFault) (e : ObjectFault) (r : Result Y Fault) (f : Y → Result Z Fault)
+    → result ≡ Err e → Refuses e r → Gives view result (r >>= f)
+refusal_first view result NoMemory r f is h = absurd h
+refusal_first view result (Refused why field) r f is h = fault_first view result (Refused why field) r f is h
 
 -- what is answered is given as it is seen
 pub passed_on : {X Y : Type 0} (view : X → Y) (result : Result X ObjectFault) (r : Result X Fault) → Answers result r → Gives view result (r >>= λ x. Ok (view x))

@@ -2,7 +2,7 @@ use Rattle.std.proofs.Common.{arith, rules, List, ◌∷◌, [], ◌∙◌, leng
 use Rattle.serde_json.specs.View.{view, items_view}
 use Rattle.objects.specs.Containers.{container}
 use Rattle.objects.specs.declared.containers.Container.{Container}
-use Rattle.objects.proofs.Each.{each_begins, each_more}
+use Rattle.objects.proofs.Each.{each_begins, each_more, each_done}
 use Rattle.objects.proofs.Faults.{fault_first}
 use Rattle.objects.proofs.containers.fill.Goals as goal
 
@@ -22,3 +22,8 @@ returns-in_err-next-clause-value c =
     let row = c.loop-item.row.items in
     rw (c.loop-item.invariant.same ∙ each_begins f c.args.found.now c.loop-item.item-index c.item-item.result row c.loop-item-test.true c.item-item.is)
     (fault_first {Z = List Container} _ c.from_residual.result c.in_err-next.field-0.0 (f row (view c.item-item.result)) _ (search rules) c.in_err-next.ensures)
+
+pub returns-clause-value : goal.returns-clause-value
+returns-clause-value c =
+    let f = λ (before : List Container). container c.args.stands c.args.key.now (items_view c.args.said.now) in
+    c.loop-item.invariant.same ∙ each_done f c.args.found.now c.loop-item.item-index c.loop-item.row.items c.loop-item-test.false
