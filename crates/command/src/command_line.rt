@@ -312,11 +312,11 @@ fn words_behind<'a>(
     ensures { Means (found_behind named (rows_of (found_of behind.now))) result }
 {
     match named {
-        CommandName::Run => Ok(Words::Run(plan_of(alloc, behind)?)),
-        CommandName::Explain => Ok(Words::Explain(plan_of(alloc, behind)?)),
-        CommandName::Storm => Ok(Words::Storm(storm_of(alloc, behind)?)),
+        CommandName::Run => plan_of(alloc, behind).map(Words::Run),
+        CommandName::Explain => plan_of(alloc, behind).map(Words::Explain),
+        CommandName::Storm => storm_of(alloc, behind).map(Words::Storm),
         CommandName::Translate => Ok(Words::Translate(translate_of(behind))),
-        CommandName::Live => Ok(Words::Live(live_of(alloc, behind)?)),
+        CommandName::Live => live_of(alloc, behind).map(Words::Live),
         CommandName::Version => Ok(Words::Version),
         CommandName::Check => check_of(behind),
     }
