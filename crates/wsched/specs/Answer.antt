@@ -1,8 +1,8 @@
 -- What the program's words get done, and by which exit status that is told.
-use Rattle.std.specs.Prelude.{◌≡◌, ◌≢◌, ◌⊎◌, ⊤, ℕ, true, false, List, Option, Some, None, Result, IfErr}
+use Rattle.std.specs.Prelude.{◌≡◌, ◌≢◌, ◌⊎◌, ℕ, true, false, List, Option, Some, None, Result, IfErr}
 use Rattle.streams.specs.Device.{DeviceUse}
 use Rattle.streams.specs.declared.fault.RunFault.TheVariants as run_fault
-use Rattle.command.specs.Words.{Asked, SpecSyntax, asked_by, run, explain, check, storm, translate, live, version}
+use Rattle.command.specs.Words.{Asked, asked_by, run, explain, check, storm, translate, live, version}
 use Rattle.command.specs.declared.fault.WordFault.{WordFault}
 use Rattle.fault_line.specs.declared.fault.Fault.{Fault}
 use Rattle.fault_line.specs.declared.fault.Fault.TheVariants.{Run, Words}
@@ -10,8 +10,7 @@ use Rattle.fault_line.specs.Fault.{status_of}
 use Rattle.translator.specs.Translate.{Manner, IsTranslated}
 use Rattle.site.specs.Check.{CannotRead, IsCheck}
 use Rattle.site.specs.Planned.{FilesUse, IsPlannedRun}
-use Rattle.site.specs.Run.{TellsFailures, TellsFault, told_of}
-use Rattle.site.specs.Site.{AreFromFiles, UnreadPlugin}
+use Rattle.site.specs.Run.{TellsFault, told_of}
 use Rattle.wsched.specs.Live.{IsPlannedLive, read_for}
 use Rattle.wsched.specs.Storm.{IsPlannedStorm}
 use Rattle.site.specs.Version.{TellsVersion}
