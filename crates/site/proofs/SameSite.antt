@@ -1,6 +1,7 @@
 -- A site's script has one output: what its plugins say depends on the modules that their bytes
 -- spell, their images and their fuels.
 use Rattle.std.proofs.Common.{◌≡◌, ◌∙◌, ℕ, zero, suc, Bool, true, List, [], ◌∷◌, map, Option, Some, None, IfSome, slice_get, inl, inr, refl, sym, subst, ap, arith}
+use Rattle.std.proofs.lemmas.Option.{none-some, same_Some}
 use Rattle.wbin.specs.Syntax.{ModuleSyntax, module_of}
 use Rattle.wbin.specs.Grammar.{Spells}
 use Rattle.wmach.specs.declared.export.Export.{Export}
@@ -79,12 +80,11 @@ AllAlike (x ∷ xs) (y ∷ ys) = Alike x y × AllAlike xs ys
 AllAlike _ _ = ⊥
 
 alike_at : (one other : List Ready) (place : ℕ) (p : Ready) → AllAlike one other → slice_get one place ≡ Some p → (q : Ready) × (slice_get other place ≡ Some q) × Alike p q
-alike_at [] [] place p all there = cc
+alike_at [] [] place p all there = absurd (none-some p there)
 alike_at [] (y ∷ ys) place p all there = absurd all
 alike_at (x ∷ xs) [] place p all there = absurd all
 alike_at (x ∷ xs) (y ∷ ys) zero p all there =
-    let same : x ≡ p = cc in
-    (y, refl, subst (λ r. Alike r y) same all.0)
+    (y, refl, subst (λ r. Alike r y) (same_Some x p there) all.0)
 alike_at (x ∷ xs) (y ∷ ys) (suc place) p all there = alike_at xs ys place p all.1 there
 
 weights_alike : (one other : List Ready) → AllAlike one other → map (λ (p : Ready). p.weight) one ≡ map (λ (p : Ready). p.weight) other
