@@ -1,7 +1,9 @@
 -- How plugins are configured one after the other, and kits made of them.
 use Rattle.std.proofs.Common.{◌≡◌, ℕ, zero, suc, ◌+◌, ◌≤◌, List, [], ◌∷◌, ◌++◌, length, map, take, Option, Some, IfSome, slice_get, All, refl, sym, ap, subst, ◌∙◌, arith, add-one}
+use Rattle.std.specs.Prelude.{option_map}
 use Rattle.std.proofs.lemmas.List.{length-map, map-append, take_all}
 use Rattle.std.proofs.lemmas.List.Elements.{All-nil, All-cons, All-head, All-tail}
+use Rattle.std.proofs.lemmas.Option.{none-some, same_Some, slice_get-map}
 use Rattle.plugin.specs.Plugins.{Configured, IsWeight, IsFuel}
 use Rattle.plugin.specs.Plugins as configured
 use Rattle.command.specs.Words.{SpecSyntax, syntax_of}
@@ -18,11 +20,7 @@ use Rattle.site.specs.inside.Site.{WhyNoModule}
 -- ---- lists
 
 at_image : {A B : Type 0} (f : A → B) (xs : List A) (j : ℕ) (x : A) → slice_get xs j ≡ Some x → slice_get (map f xs) j ≡ Some (f x)
-at_image f [] j x there = cc
-at_image f (a ∷ xs) zero x there =
-    let same : a ≡ x = cc in
-    ap (λ o. Some (f o)) same
-at_image f (a ∷ xs) (suc j) x there = at_image f xs j x there
+at_image f xs j x there = slice_get-map f xs j ∙ ap (option_map f) there
 
 -- ---- plugins
 
@@ -38,14 +36,13 @@ as_many (s ∷ specs) (b ∷ modules) (p ∷ plugins) are = ap suc (as_many spec
 -- each is one that is configured, by its name
 spec_at : (specs : List Spec) (modules : List (List ℕ)) (plugins : List Configured) (j : ℕ) (p : Configured) → ArePlugins (map syntax_of specs) modules plugins
     → slice_get plugins j ≡ Some p → (s : Spec) × (slice_get specs j ≡ Some s) × (p.name ≡ s.name)
-spec_at [] [] [] j p are at = cc
+spec_at [] [] [] j p are at = absurd (none-some p at)
 spec_at [] [] (q ∷ plugins) j p are at = absurd are
 spec_at [] (b ∷ modules) plugins j p are at = absurd are
 spec_at (s ∷ specs) [] plugins j p are at = absurd are
 spec_at (s ∷ specs) (b ∷ modules) [] j p are at = absurd are
 spec_at (s ∷ specs) (b ∷ modules) (q ∷ plugins) zero p are at =
-    let same : p ≡ q = cc in
-    (s, refl, ap (λ x. x.name) same ∙ are.0.name)
+    (s, refl, ap (λ x. x.name) (sym (same_Some q p at)) ∙ are.0.name)
 spec_at (s ∷ specs) (b ∷ modules) (q ∷ plugins) (suc j) p are at = spec_at specs modules plugins j p are.1 at
 
 -- so their names differ where the configured ones do
@@ -97,11 +94,11 @@ within specs modules plugins limits are = record {
 pub plugins_more : (specs : List SpecSyntax) (modules : List (List ℕ)) (plugins : List Configured) (i : ℕ) (s : SpecSyntax) (b : List ℕ) (p : Configured)
     → slice_get specs i ≡ Some s → slice_get modules i ≡ Some b → ArePlugins (take i specs) (take i modules) plugins → IsPlugin s b p
     → ArePlugins (take (suc i) specs) (take (suc i) modules) (plugins ++ p ∷ [])
-plugins_more [] modules plugins i s b p at there are is = cc
-plugins_more (t ∷ specs) [] plugins i s b p at there are is = cc
+plugins_more [] modules plugins i s b p at there are is = absurd (none-some s at)
+plugins_more (t ∷ specs) [] plugins i s b p at there are is = absurd (none-some b there)
 plugins_more (t ∷ specs) (c ∷ modules) [] zero s b p at there are is =
-    let same : s ≡ t = cc in
-    let alike : b ≡ c = cc in
+    let same : s ≡ t = sym (same_Some t s at) in
+    let alike : b ≡ c = sym (same_Some c b there) in
     (subst (λ x. IsPlugin x c p) same (subst (λ x. IsPlugin s x p) alike is), tt)
 plugins_more (t ∷ specs) (c ∷ modules) (q ∷ plugins) zero s b p at there are is = absurd are
 plugins_more (t ∷ specs) (c ∷ modules) [] (suc i) s b p at there are is = absurd are
@@ -143,10 +140,9 @@ all_had specs modules plugins i long same are =
 
 -- one more rule as it is told
 one_named : (specs : List SpecSyntax) (i : ℕ) (s : SpecSyntax) → slice_get specs i ≡ Some s → named_of (take (suc i) specs) ≡ named_of (take i specs) ++ record { name = s.name; weight = s.weight } ∷ []
-one_named [] i s at = cc
+one_named [] i s at = absurd (none-some s at)
 one_named (t ∷ specs) zero s at =
-    let same : s ≡ t = cc in
-    ap (λ x. record { name = x.name; weight = x.weight } ∷ []) (sym same)
+    ap (λ x. record { name = x.name; weight = x.weight } ∷ []) (same_Some t s at)
 one_named (t ∷ specs) (suc i) s at = ap (λ rules. record { name = t.name; weight = t.weight } ∷ rules) (one_named specs i s at)
 
 -- the same, from the code's own list
@@ -161,9 +157,9 @@ named_more specs old new i spec name at same so_far joined =
 read_more : (contents : List ℕ → Option (List ℕ)) (specs : List SpecSyntax) (modules : List (List ℕ)) (i : ℕ) (s : SpecSyntax) (b : List ℕ)
     → slice_get specs i ≡ Some s → AreFromFiles contents (take i specs) modules → IfSome (contents s.file) (λ whole. b ≡ front_of whole)
     → AreFromFiles contents (take (suc i) specs) (modules ++ b ∷ [])
-read_more contents [] modules i s b at are is = cc
+read_more contents [] modules i s b at are is = absurd (none-some s at)
 read_more contents (t ∷ specs) [] zero s b at are is =
-    let same : s ≡ t = cc in
+    let same : s ≡ t = sym (same_Some t s at) in
     (subst (λ x. IfSome (contents x.file) (λ whole. b ≡ front_of whole)) same is, tt)
 read_more contents (t ∷ specs) (c ∷ modules) zero s b at are is = absurd are
 read_more contents (t ∷ specs) [] (suc i) s b at are is = absurd are
