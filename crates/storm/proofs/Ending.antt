@@ -102,6 +102,79 @@ told_storm rules deciders binders desk fed counts rows clerk last sink (Err e) o
   write_told = told.write_told;
 }
 
+-- ---- what closing and telling came to
+
+not_write : {e : RunFault} → (e ≡ NoMemory) ⊎ (e ≡ NoPlace) → ◌≡◌ {A = Result Bool RunFault} (Err e) (Err Write) → ⊥
+not_write (inl is) other = cc
+not_write (inr is) other = cc
+
+no_answer : {answer : Bool} {e : RunFault} → ◌≡◌ {A = Result Bool RunFault} (Ok answer) (Err e) → ⊥
+no_answer is = cc
+
+-- there was no memory for what is to be told
+pub untold : (desk : Desk) (clerk last : Pass) (counts : Counts) (rows : List Shown) (sink : DeviceUse) (book : Cluster) → Closed desk clerk last book
+    → sink.IsUntouched → sink.failures_new ≡ sink.failures_old → IsClosedAndTold desk clerk last counts rows sink (Err NoMemory)
+untold desk clerk last counts rows sink book closed untouched same = record {
+  book = book;
+  closed = closed;
+  says = tt;
+  wrote = tt;
+  front = λ is. absurd (not_write (inl refl) is);
+  quiet = λ _. untouched;
+  faults = inl refl;
+  write = λ is. absurd (not_write (inl refl) is);
+  write_told = λ _. same;
+}
+
+-- the write failed
+pub unwritten : (desk : Desk) (clerk last : Pass) (counts : Counts) (rows : List Shown) (sink : DeviceUse) (book : Cluster) (answer : Bool) → Closed desk clerk last book
+    → (IsTrue answer ↔ ShowsSums rows book.places) → AppendsFront sink.old sink.new (storm_text rows counts answer) → sink.failures_old < sink.failures_new
+    → IsClosedAndTold desk clerk last counts rows sink (Err Write)
+unwritten desk clerk last counts rows sink book answer closed says begun more = record {
+  book = book;
+  closed = closed;
+  says = tt;
+  wrote = tt;
+  front = λ _. (answer, says, begun);
+  quiet = λ other. absurd (other refl);
+  faults = inr refl;
+  write = λ _. more;
+  write_told = λ other. absurd (other refl);
+}
+
+-- all was written
+pub told : (desk : Desk) (clerk last : Pass) (counts : Counts) (rows : List Shown) (sink : DeviceUse) (book : Cluster) (answer : Bool) → Closed desk clerk last book
+    → (IsTrue answer ↔ ShowsSums rows book.places) → Appends sink.old sink.new (storm_text rows counts answer) → sink.failures_new ≡ sink.failures_old
+    → IsClosedAndTold desk clerk last counts rows sink (Ok answer)
+told desk clerk last counts rows sink book answer closed says whole same = record {
+  book = book;
+  closed = closed;
+  says = says;
+  wrote = whole;
+  front = λ is. absurd (no_answer is);
+  quiet = tt;
+  faults = tt;
+  write = λ is. absurd (no_answer is);
+  write_told = λ _. same;
+}
+
+-- ---- a storm on a desk of its own
+
+-- nothing was told of it
+pub none_told : {D : Type 0} (rules : D → RuleSet) (deciders : List D) (binders : ℕ) (fed : List Step) (sink : DeviceUse) (e : RunFault) → (e ≡ NoMemory) ⊎ (e ≡ NoPlace)
+    → sink.IsUntouched → sink.failures_new ≡ sink.failures_old → IsStormOf rules deciders binders fed sink (Err e)
+none_told rules deciders binders fed sink e why untouched same = record {
+  storm = tt;
+  front = λ is. absurd (not_write why is);
+  quiet = λ _. untouched;
+  faults = elim why [
+    | inl none ↦ inl none
+    | inr full ↦ inr (inl full)
+  ];
+  write = λ is. absurd (not_write why is);
+  write_told = λ _. same;
+}
+
 -- ---- the run
 
 -- why a storm whose script was read may end early
