@@ -1,11 +1,11 @@
 -- Lines that are read in parts, and then as a whole.
-use Rattle.std.proofs.Common.{◌≡◌, ◌≢◌, ℕ, suc, ◌+◌, ◌<◌, List, [], ◌∷◌, ◌++◌, map, length, take, drop, get_or, Option, Some, None, Result, Ok, Err, refl, sym, ap, subst, ◌∙◌, arith, append_assoc}
+use Rattle.std.proofs.Common.{◌≡◌, ◌≢◌, ℕ, suc, ◌+◌, ◌<◌, ◌≤◌, List, [], ◌∷◌, ◌++◌, map, length, take, drop, get_or, Option, Some, None, Result, Ok, Err, refl, sym, ap, subst, ◌∙◌, arith, append_assoc}
 use Rattle.std.specs.Prelude.{MatchOption, IfSome, option_to_list}
 use Rattle.std.specs.List.{All}
 use Rattle.std.specs.Option.{option_map}
 use Rattle.std.proofs.lemmas.List.Elements.{All-nil, All-push, All-append, All-same}
 use Rattle.std.proofs.Math.Seq.{take-suc}
-use Rattle.std.proofs.lemmas.List.{map-append, length-append, length-map, length-take, take-append-drop}
+use Rattle.std.proofs.lemmas.List.{map-append, length-append, length-map, length-take, take-append-drop, take_all}
 use Rattle.manifest.specs.declared.command.Command.{Command}
 use Rattle.manifest.specs.declared.fault.LineFault.{LineFault}
 use Rattle.manifest.specs.declared.fault.LineFault.TheVariants as faults
@@ -153,6 +153,17 @@ module _ {V : Type 0} (text : V → List ℕ) (lines : List V) (k : ℕ) (x : V)
       let moved : IsFaulty (map text (take (k + 1) lines)) (record { before = k; fault = fault }) =
       subst (λ (t : List (List ℕ)). IsFaulty t (record { before = k; fault = fault })) (sym more_texts) (subst (λ (n : ℕ). IsFaulty (front ++ text x ∷ []) (record { before = n; fault = fault })) there here) in
       subst (λ (t : List (List ℕ)). IsFaulty t (record { before = k; fault = fault })) (sym (texts_cut text lines (k + 1))) (faulty_front (map text (take (k + 1) lines)) (map text (drop (k + 1) lines)) (record { before = k; fault = fault }) moved)
+
+-- the line behind so many has a step for which there was no memory
+pub read_no_memory : {V : Type 0} (text : V → List ℕ) (lines : List V) (before : ℕ) (steps : List Step) → before < length lines → All IsTimely steps → AreRead (map text lines) steps (Some (record { before = before; fault = faults.NoMemory }))
+read_no_memory text lines before steps lt timely = record {
+  timely = timely;
+  read = record { there = omega (arith, length-map lines text); first = λ other. absurd (other refl) };
+}
+
+-- every line was read
+pub read_all : {V : Type 0} (text : V → List ℕ) (lines : List V) (k : ℕ) (steps : List Step) → length lines ≤ k → AreSteps (map text (take k lines)) steps → All IsTimely steps → AreRead (map text lines) steps None
+read_all text lines k steps all so_far timely = record { timely = timely; read = subst (λ t. AreSteps (map text t) steps) (take_all k lines all) so_far }
 
 -- ---- two parts
 

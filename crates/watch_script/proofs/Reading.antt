@@ -1,5 +1,5 @@
 -- How far a script is read: which of its steps are there, and which lines are left.
-use Rattle.std.proofs.Common.{◌≡◌, ◌≢◌, ℕ, ◌+◌, List, [], ◌++◌, length, Option, Some, None, IfSome, refl, sym, ap, subst, ◌∙◌, append_assoc}
+use Rattle.std.proofs.Common.{◌≡◌, ◌≢◌, ℕ, ◌+◌, ◌<◌, List, [], ◌++◌, length, Option, Some, None, IfSome, refl, sym, ap, subst, ◌∙◌, append_assoc}
 use Rattle.std.proofs.lemmas.List.{append-nil, length-map}
 use Rattle.std.proofs.lemmas.List.Elements.{All-append, All-same}
 use Rattle.std.specs.Option.{option_map}
@@ -80,6 +80,10 @@ read-fault script rest later lines steps more fault f number at why read some to
     let faulty = subst (λ o. MatchOption o (AreSteps lines more) (IsFaulty lines)) some read.read in
     subst (λ (n : ℕ). IfSome script (λ text. first_storm_fault text ≡ Some (n, why))) (sym there)
     (subst (λ (w : LineFault). IfSome script (λ text. first_storm_fault text ≡ Some (number + f.before, w))) (sym is) (reading-fault script rest later lines steps number f took (faulty.first other) so_far))
+
+-- which is one of these
+pub read-there : (lines : List (List ℕ)) (steps : List Step) (fault : Option Faulty) (f : Faulty) → AreRead lines steps fault → fault ≡ Some f → f.before < length lines
+read-there lines steps fault f read some = (subst (λ o. MatchOption o (AreSteps lines steps) (IsFaulty lines)) some read.read).there
 
 pub read-timely : (lines : List (List ℕ)) (steps more new : List Step) (fault : Option Faulty) → AreRead lines more fault → new ≡ steps ++ more → All IsTimely steps → All IsTimely new
 read-timely lines steps more new fault read grown timely = All-same IsTimely new (steps ++ more) grown (All-append IsTimely steps more timely read.timely)

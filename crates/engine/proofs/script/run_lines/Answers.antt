@@ -1,4 +1,4 @@
-use Rattle.std.proofs.Common.{◌≡◌, ◌≢◌, ℕ, ◌+◌, ◌<◌, ◌≤◌, Ok, Err, Result, List, [], length, refl, ap, sym, subst, ◌∙◌, arith}
+use Rattle.std.proofs.Common.{◌≡◌, ◌≢◌, ℕ, ◌+◌, ◌^◌, ◌<◌, ◌≤◌, Ok, Err, Result, List, [], length, refl, ap, sym, subst, ◌∙◌, arith}
 use Rattle.std.proofs.lemmas.Result.{err_from_is_err_and, on_ok_weaker, on_err_weaker}
 use Rattle.streams.specs.declared.fault.RunFault.{RunFault}
 use Rattle.streams.specs.declared.fault.RunFault.TheVariants.{NoMemory, Read}
@@ -141,3 +141,24 @@ returns-in-Err-clause-placed g c = placed-line _ c.in-Err.fault _ _ refl c.in-Er
 
 pub returns-in-Err-clause-kits : goal.returns-in-Err-clause-kits
 returns-in-Err-clause-kits g c = c.in-Err.ensures.kits ∙ c.lines.invariant.1
+
+-- ---- what is asked before a call: no device has failed
+
+pub flush_if-requires : goal.flush_if-requires
+flush_if-requires g c = subst (λ n. n < 10 ^ 18) (sym c.lines.invariant.3) c.requires.writes
+
+pub next_line-requires-clause-reads : goal.next_line-requires-clause-reads
+next_line-requires-clause-reads g c = subst (λ n. n < 10 ^ 18) (sym c.lines.invariant.2) c.requires.reads
+
+pub flush-requires : goal.flush-requires
+flush-requires g c = subst (λ n. n < 10 ^ 18) (sym (c.in_ok-flush_if.ensures.failed ∙ c.lines.invariant.3)) c.requires.writes
+
+pub flush-requires-in-Err : goal.flush-requires-in-Err
+flush-requires-in-Err g c = subst (λ n. n < 10 ^ 18) (sym (c.in_ok-flush_if.ensures.failed ∙ c.lines.invariant.3)) c.requires.writes
+
+-- a line that is taken had a byte
+pub overflow_add-number : goal.overflow_add-number
+overflow_add-number g c = omega (arith, c.lines.invariant.4, c.in_ok-next_line.ensures.less (ap Ok c.if-not-branch.false), c.requires.finite)
+
+pub lines-smaller : goal.lines-smaller
+lines-smaller g c = c.in_ok-next_line.ensures.less (ap Ok c.if-not-branch.false)
