@@ -20,6 +20,10 @@ pub on_ok_both : {T E A B C : Type 0} (r : Result T E) → (A → B → C) → O
 on_ok_both (Ok x) f a b = f a b
 on_ok_both (Err e) f a b = tt
 
+-- want of memory is no failed read
+pub not_read : {T : Type 0} {e : RunFault} → e ≡ run_fault.NoMemory → ◌≡◌ {A = Result T RunFault} (Err e) (Err run_fault.Read) → ⊥
+not_read wanting read = cc
+
 -- ---- what is written at an end
 
 -- a beginning of the answers is written
