@@ -12,6 +12,15 @@ use Rattle.choose.specs.Choice.{AreVerdicts}
 use Rattle.choose.proofs.Verdicts.{all_zip_append}
 use Rattle.choose.specs.Kits.{JudgeAlike}
 
+-- kits that judge alike do so without those behind them, or before them
+pub alike_front : {Kit : Type 0} (answers : Kit → RuleSet) (front back : List Kit) → JudgeAlike answers (front ++ back) → JudgeAlike answers front
+alike_front answers front back alike = λ one other pod shown verdict is_one is_other.
+    alike one other pod shown verdict (Contains-append_left front back one is_one) (Contains-append_left front back other is_other)
+
+pub alike_back : {Kit : Type 0} (answers : Kit → RuleSet) (front back : List Kit) → JudgeAlike answers (front ++ back) → JudgeAlike answers back
+alike_back answers front back alike = λ one other pod shown verdict is_one is_other.
+    alike one other pod shown verdict (Contains-append_right front back one is_one) (Contains-append_right front back other is_other)
+
 -- the verdicts of one kit are those of another that judges alike
 pub verdicts_alike : (one other : RuleSet) (pod : Pod) → ((shown : Shown) (verdict : Verdict) → HasVerdict one pod shown verdict → HasVerdict other pod shown verdict) →
     (nodes : List Shown) (verdicts : List Verdict) → AreVerdicts one pod nodes verdicts → AreVerdicts other pod nodes verdicts

@@ -4,3 +4,6 @@ use Rattle.crew.proofs.binding.bind_all.Goals as goal
 -- a job more was reported
 pub loop-preserved : goal.loop-preserved
 loop-preserved g c = (tt, tt, more_reports _ _ _ c.loop.invariant.2 c.report.ensures.reports)
+
+pub returns-then-not-report-clause-reports : goal.returns-then-not-report-clause-reports
+returns-then-not-report-clause-reports g c = more_reports _ _ _ c.loop.invariant.2 c.report.ensures.reports

@@ -6,7 +6,7 @@ use Rattle.choose.specs.Choice.{AreVerdicts}
 use Rattle.pieces.specs.Pieces.{places_of, nodes_of}
 use Rattle.choose.specs.Kits.{JudgeAlike}
 use Rattle.pieces.proofs.Cutting.{back_pieces, nodes_of_both}
-use Rattle.pieces.proofs.Together.{found_by_all}
+use Rattle.pieces.proofs.Together.{alike_front, alike_back, found_by_all}
 use Rattle.pieces.proofs.judging.+pieces.Goals as goal
 
 pub judge_pieces-judge_both-requires-clause-pieces_there : goal.judge_pieces-judge_both-requires-clause-pieces_there
@@ -18,6 +18,16 @@ judge_pieces-judge_both-requires-clause-pieces_there g t c κs within =
     let places : length c.split_at_mut-here.result.1.now ≡ length c.args.verdicts.now - places_of nodes pieces c.args.first (many / 2) =
     omega (arith, c.split_at_mut-here.ensures.back_len, c.begin.ensures.place, c.begin-2.ensures.place) in
     rw (kits, places) (back_pieces nodes pieces c.args.first many (many / 2) (length c.args.verdicts.now) (omega (arith, c.requires.pieces.some)) c.requires.pieces)
+
+pub judge_pieces-judge_both-requires-clause-alike_here : goal.judge_pieces-judge_both-requires-clause-alike_here
+judge_pieces-judge_both-requires-clause-alike_here g t c κs within =
+    let cut = c.split_at_mut-kits_here in
+    alike_front g.K.Rules.answers cut.result.0.now cut.result.1.now (subst (λ kits. JudgeAlike g.K.Rules.answers kits) cut.ensures.value c.requires.alike)
+
+pub judge_pieces-judge_both-requires-clause-alike_there : goal.judge_pieces-judge_both-requires-clause-alike_there
+judge_pieces-judge_both-requires-clause-alike_there g t c κs within =
+    let cut = c.split_at_mut-kits_here in
+    alike_back g.K.Rules.answers cut.result.0.now cut.result.1.now (subst (λ kits. JudgeAlike g.K.Rules.answers kits) cut.ensures.value c.requires.alike)
 
 pub judge_pieces-returns-clause-are : goal.judge_pieces-returns-clause-are
 judge_pieces-returns-clause-are g t c =
