@@ -1,4 +1,4 @@
-use Rattle.std.proofs.Common.{◌≡◌, ℕ, false, zero, suc, [], None, length, replicate, refl, ap, ◌∙◌}
+use Rattle.std.proofs.Common.{◌≡◌, ℕ, false, zero, suc, [], None, length, replicate, arith, refl, sym, ap, ◌∙◌}
 use Rattle.std.proofs.lemmas.List.{length-replicate}
 use Rattle.std.specs.FinMap as fin
 use Rattle.name_table.specs.Slots.{Slots, map_of, filled}
@@ -14,6 +14,12 @@ free X s n e = ap map_of e ∙ ap fin.from_entries (no_entry X n)
 
 as_long : (X : Type 0) (s : Slots X) (n : ℕ) → s ≡ replicate n None → length s ≡ n
 as_long X s n e = ap length e ∙ length-replicate n None
+
+pub invariant_of-result : goal.invariant_of-result
+invariant_of-result c = (
+  as_long _ c.in_ok-nodes.nodes _ c.in_ok-nodes.ensures ∙ sym (ap (λ book. book.limits.nodes) c.in_ok-book.ensures),
+  omega (arith, as_long _ c.in_ok-pods.pods _ c.in_ok-pods.ensures, c.requires),
+)
 
 pub returns : goal.returns
 returns c = λ i. record {
