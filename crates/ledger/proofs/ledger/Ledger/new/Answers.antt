@@ -15,6 +15,7 @@ free X s n e = ap map_of e ∙ ap fin.from_entries (no_entry X n)
 as_long : (X : Type 0) (s : Slots X) (n : ℕ) → s ≡ replicate n None → length s ≡ n
 as_long X s n e = ap length e ∙ length-replicate n None
 
+-- there are as many slots as were asked for
 pub invariant_of-result : goal.invariant_of-result
 invariant_of-result c = (
   as_long _ c.in_ok-nodes.nodes _ c.in_ok-nodes.ensures ∙ sym (ap (λ book. book.limits.nodes) c.in_ok-book.ensures),
