@@ -1,4 +1,2 @@
 pub mod Alike
-pub mod Collecting
-pub mod Kits
-pub mod Ruled
+pub mod Together

@@ -6,17 +6,16 @@ ghost use Rattle.choose.specs.Choice.{AreRulings, AreVerdicts, Choice};
 ghost use Rattle.choose.specs.Kits.{JudgeAlike, rules_of};
 ghost use Rattle.choose.specs.Verdict.{asked};
 
+use crate::judging::judge_pieces;
 use choose::{Decision, NoMemory, UNJUDGED, Verdict, decide, rule_on};
 use desk::{Row, Snapshot};
-use pieces::{Gate, Work, judge_pieces};
+use pieces::{Gate, Work};
+use pool::MAX_KITS;
 use quant::Pod;
 use rules::Rules;
 use std::alloc::Global;
 use std::marker::Model;
 use std::thread::Threads;
-
-/// The most kits of a fleet.
-pub const MAX_KITS: usize = quant::MAX_WORKERS;
 
 /// Kits that judge alike, one a worker, and the room for the verdicts of a decision, which stays
 /// between two decisions.
@@ -29,7 +28,7 @@ pub struct Fleet<K: Rules + Send> {
 impl<K: Rules + Send> Model for Fleet<K> {
     ghost use Rattle.std.specs.Prelude.{◌<◌, ◌≤◌, length, vec_capacity};
     ghost use Rattle.choose.specs.Kits.{JudgeAlike};
-    ghost use Rattle.fleet.specs.inside.Team.{Team};
+    ghost use Rattle.pool.specs.inside.Team.{Team};
 
     ghost Value = { Team K };
 

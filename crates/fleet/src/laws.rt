@@ -1,7 +1,7 @@
 //! What holds of every fleet. The function does nothing: its contract is the law.
 ghost use Rattle.std.specs.Prelude.{◌≡◌};
 
-use crate::fleet::MAX_KITS;
+use pool::MAX_KITS;
 
 /// A fleet has at most so many kits.
 pub fn most_kits_are_these()

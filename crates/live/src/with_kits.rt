@@ -2,14 +2,14 @@
 ghost use Rattle.std.specs.Prelude.{◌≡◌, ◌^◌, ◌<◌, ◌≤◌, ◌∷◌, vec_len};
 ghost use Rattle.std.specs.List.{All};
 ghost use Rattle.choose.specs.Kits.{JudgeAlike, rules_of};
-ghost use Rattle.fleet.specs.Speaking.{SpeaksFor};
+ghost use Rattle.pool.specs.Speaking.{SpeaksFor};
 ghost use Rattle.streams.specs.Device.{use_of};
 ghost use Rattle.live.specs.Live.{IsLive, manner};
 ghost use Rattle.objects.specs.Site.{site_of};
 
 use crate::live_run::serve_live;
 use fault_line::{Fault, report};
-use fleet::{Blank, MAX_KITS, NoGate, Pool, Site as Fleet};
+use pool::{Blank, MAX_KITS, NoGate, Pool, Site as Fleet};
 use objects::Site;
 use output_lines::NamedRule;
 use rules::Rules;

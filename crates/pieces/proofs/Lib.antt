@@ -1,4 +1,3 @@
+pub mod Asking
 pub mod Cutting
 pub mod Seen
-pub mod Together
-pub mod Asking

@@ -2,13 +2,13 @@
 ghost use Rattle.std.specs.Prelude.{◌≡◌, ◌^◌, ◌<◌, ◌≤◌, ◌∷◌, Err, vec_len};
 ghost use Rattle.std.specs.List.{All};
 ghost use Rattle.choose.specs.Kits.{JudgeAlike, rules_of};
-ghost use Rattle.fleet.specs.Speaking.{SpeaksFor};
+ghost use Rattle.pool.specs.Speaking.{SpeaksFor};
 ghost use Rattle.streams.specs.Device.{use_of};
 ghost use Rattle.engine.specs.Run.{IsRun};
 ghost use Rattle.output_lines.specs.Telling.{telling};
 
 use engine::run;
-use fleet::{Blank, MAX_KITS, NoGate, Pool, Site};
+use pool::{Blank, MAX_KITS, NoGate, Pool, Site};
 use output_lines::NamedRule;
 use rules::Rules;
 use std::alloc::Global;

@@ -1,4 +1,4 @@
-use Rattle.fleet.proofs.Kits.{first_speaks}
+use Rattle.pool.proofs.Kits.{first_speaks}
 use Rattle.live.proofs.with_kits.live_with_kits.Goals as goal
 
 pub live_in-requires-clause-first : goal.live_in-requires-clause-first

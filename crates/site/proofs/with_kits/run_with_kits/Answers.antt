@@ -1,4 +1,4 @@
-use Rattle.fleet.proofs.Kits.{first_speaks}
+use Rattle.pool.proofs.Kits.{first_speaks}
 use Rattle.site.proofs.with_kits.run_with_kits.Goals as goal
 
 pub run_in-requires-clause-first : goal.run_in-requires-clause-first

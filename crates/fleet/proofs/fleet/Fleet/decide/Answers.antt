@@ -9,7 +9,7 @@ use Rattle.choose.specs.Choice.{AreVerdicts}
 use Rattle.choose.specs.Kits.{JudgeAlike}
 use Rattle.pieces.specs.Pieces.{nodes_of, ArePieces}
 use Rattle.pieces.proofs.Cutting.{all_pieces, nodes_of_all}
-use Rattle.fleet.proofs.Collecting.{choice_is}
+use Rattle.pool.proofs.Collecting.{choice_is}
 use Rattle.fleet.proofs.fleet.Fleet.decide.Goals as goal
 
 -- as many pieces as there are kits have all the places

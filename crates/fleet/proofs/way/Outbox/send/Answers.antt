@@ -1,5 +1,0 @@
-use Rattle.fleet.proofs.Ruled.{may_be_sent, nothing_learned}
-use Rattle.fleet.proofs.way.Outbox.send.Goals as goal
-
-pub send_as-requires-clause-rule : goal.send_as-requires-clause-rule
-send_as-requires-clause-rule g c = (may_be_sent g.H.Holds.of _ _ c.args.message c.requires, nothing_learned g.H.Holds.of _)

@@ -1,0 +1,24 @@
+use Rattle.std.proofs.Common.{◌∙◌, ap, arith, subst}
+use Rattle.std.specs.Arc.{arc_value}
+use Rattle.choose.specs.Choice.{AreVerdicts, Choice}
+use Rattle.pool.proofs.Collecting.{choice_is}
+use Rattle.pool.proofs.pool.choose_there.Goals as goal
+
+pub returns-clause-chosen : goal.returns-clause-chosen
+returns-clause-chosen g c =
+    let asked = arc_value c.in-Ok.order in
+    let kit = g.K.Rules.answers c.args.home.now in
+    let made = c.judge_and_collect.new.verdicts in
+    subst (λ a. Choice kit a.snapshot a.pod c.decide.result) c.in-Ok.ensures.ok
+    (choice_is kit c.rows.result.now asked.snapshot asked.pod made _
+    (c.rows.ensures ∙ ap (λ a. a.snapshot) (c.asked.ensures ∙ c.deref-2.ensures))
+    (subst (λ a. AreVerdicts kit a.pod a.snapshot made) c.deref.ensures c.judge_and_collect.ensures.are) c.decide.ensures)
+
+pub returns-clause-judged : goal.returns-clause-judged
+returns-clause-judged g c =
+    subst (λ a. AreVerdicts (g.K.Rules.answers c.args.home.now) a.pod a.snapshot c.judge_and_collect.new.verdicts) (c.deref.ensures ∙ c.in-Ok.ensures.ok) c.judge_and_collect.ensures.are
+
+pub send_all-requires-clause-pieces : goal.send_all-requires-clause-pieces
+send_all-requires-clause-pieces g c =
+    let same = ap (λ a. a.pieces) c.in-Ok.ensures.ok in
+    omega (arith, same, c.requires.pieces, c.split_at_mut-woken.ensures.front_len)
