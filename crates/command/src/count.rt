@@ -4,14 +4,12 @@ ghost use Rattle.command.specs.Count.{most_of, name_of, number_for, unless_told}
 
 use crate::plugin_words::number_up_to;
 use quant::MAX_WORKERS;
-use std::fmt;
-use thiserror::Error;
 
 /// The most threads that run cycles in a storm, and the most that bind. The least is 1.
 pub const MAX_STORM_THREADS: usize = 8;
 
-/// A number that an option asks for, with its letter in the usage.
-#[derive(Clone, Copy, Debug, Error)]
+/// A number that an option asks for.
+#[derive(Clone, Copy)]
 pub enum Count {
     /// How many workers share each decision of a run.
     Workers,
@@ -22,15 +20,6 @@ pub enum Count {
 }
 
 impl Count {
-    /// Its letter in the usage.
-    pub(crate) fn letter(self) -> &'static str {
-        match self {
-            Count::Workers => "N",
-            Count::Cycles => "C",
-            Count::Binders => "B",
-        }
-    }
-
     /// The option's name.
     pub(crate) fn name(self) -> &'static str
         ensures { result.now ≡ name_of self }
@@ -60,12 +49,6 @@ impl Count {
             Count::Workers => 1,
             Count::Cycles | Count::Binders => 2,
         }
-    }
-}
-
-impl fmt::Display for Count {
-    fn fmt<W: fmt::Write>(&self, f: &mut fmt::Formatter<W>) -> fmt::Result {
-        f.write_str(self.letter())
     }
 }
 

@@ -7,11 +7,9 @@ use crate::plugin_words::{cut, digits_up_to};
 use crate::verb::{Verb, Wanted};
 use quant::{MAX_FUEL, MAX_WEIGHT, Name};
 use std::convert::AsStr;
-use std::fmt;
-use thiserror::Error;
 
 /// The parts of a plugin, as a word spells it: `NAME:WEIGHT:FUEL:FILE`.
-#[derive(Clone, Copy, Debug, Error)]
+#[derive(Clone, Copy)]
 pub enum Part {
     /// The word lacks one of its three colons.
     Spec,
@@ -23,27 +21,9 @@ pub enum Part {
     Fuel,
 }
 
-impl Part {
-    // Its name in the usage.
-    fn name(self) -> &'static str {
-        match self {
-            Part::Spec => "SPEC",
-            Part::Name => "NAME",
-            Part::Weight => "WEIGHT",
-            Part::Fuel => "FUEL",
-        }
-    }
-}
-
-impl fmt::Display for Part {
-    fn fmt<W: fmt::Write>(&self, f: &mut fmt::Formatter<W>) -> fmt::Result {
-        f.write_str(self.name())
-    }
-}
-
 /// What is wrong with words that ask for nothing. Words are counted from 1, and the program's name
 /// isn't one.
-#[derive(Clone, Copy, Debug, Error)]
+#[derive(Clone, Copy)]
 pub enum Misuse {
     /// The first word is no command, or there is none.
     Command,
@@ -60,21 +40,6 @@ pub enum Misuse {
     /// more than 16 plugins, or `check` has another number of words than one, or `version` one at
     /// all.
     Together,
-}
-
-// (A derive would write it by an exit for each, whose proof is dearer.)
-impl fmt::Display for Misuse {
-    fn fmt<W: fmt::Write>(&self, f: &mut fmt::Formatter<W>) -> fmt::Result {
-        let (what, number) = match self {
-            Misuse::Command => return f.write_str(" COMMAND"),
-            Misuse::Together => return Ok(()),
-            Misuse::Number(count, number) => (count.letter(), *number),
-            Misuse::Plugin(part, number) => (part.name(), *number),
-            Misuse::Scheduler(number) => ("NAME", *number),
-            Misuse::Unknown(number) => ("OPTION", *number),
-        };
-        write!(f, " {what} of word {number}")
-    }
 }
 
 /// What a word behind a command is read as.

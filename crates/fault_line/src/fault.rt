@@ -7,32 +7,24 @@ use crate::unread::{FileFault, LineUncounted, PluginUnread};
 use command::{Misuse, WordFault};
 use quant::Name;
 use streams::RunFault;
-use thiserror::Error;
 
 /// Why the program ends early.
-#[derive(Debug, Drop, Error)]
+#[derive(Drop)]
 pub enum Fault {
     /// Its words were refused.
-    #[error("{0}")]
     Words(WordFault),
     /// Its words ask for nothing, and this is wrong with them.
-    #[error("1 BadWords{0}")]
     Misused(Misuse),
     /// The module of the plugin of this name was refused.
-    #[error("plugin {}: refused {}", .0.as_str(), .1)]
     Plugin(Name, Refusal),
     /// The file of a plugin couldn't be opened or read.
-    #[error("plugin {}: {}", .0.plugin.as_str(), RunFault::Read)]
     Unread(PluginUnread),
     /// The file of a module that is to be checked couldn't be opened or read.
-    #[error("{}", RunFault::Read)]
     UnreadModule(FileFault),
     /// The run of a script ended early.
-    #[error("{0}")]
     Run(RunFault),
     /// A line of objects can't be counted: it may be a pod on a node, and no line of a script can
     /// say that it is there, or there is no version left.
-    #[error("line {}: 6 Uncounted", .0.number)]
     Uncounted(LineUncounted),
 }
 

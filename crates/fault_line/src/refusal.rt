@@ -3,22 +3,18 @@ ghost use Rattle.std.specs.Prelude.{◌≡◌, ◌+◌, ◌≤◌, ◌++◌, len
 ghost use Rattle.fault_line.specs.Refusal.{bin_text, where_text, type_text, instance_text, refusal_text};
 
 use crate::message::{Message, push, push_fault, push_number};
-use thiserror::Error;
 use wcode::BinFault;
 use whost::InstanceFault;
 use wtype::TypeFault;
 
 /// Why a module is refused.
-#[derive(Clone, Copy, Debug, Error)]
+#[derive(Clone, Copy)]
 pub enum Refusal {
     /// The bytes spell no module.
-    #[error("decode {0}")]
     Undecoded(BinFault),
     /// The module is not accepted.
-    #[error("type {0}")]
     Untyped(TypeFault),
     /// The module is accepted, and no instance of it can be made.
-    #[error("instance {0}")]
     NotReady(InstanceFault),
 }
 

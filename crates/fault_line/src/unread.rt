@@ -6,7 +6,7 @@ use crate::excerpt::Excerpt;
 use quant::Name;
 
 /// Why a file couldn't be opened or read, as far as the system says it.
-#[derive(Clone, Copy, Debug)]
+#[derive(Clone, Copy)]
 pub enum Cause {
     /// There is none of this name.
     Missing,
@@ -37,7 +37,7 @@ impl Cause {
 }
 
 /// A file that couldn't be opened or read.
-#[derive(Debug, Drop)]
+#[derive(Drop)]
 pub struct FileFault {
     /// As much of its name as is told.
     pub file: Excerpt,
@@ -45,14 +45,14 @@ pub struct FileFault {
 }
 
 /// The plugin whose file couldn't be opened or read.
-#[derive(Debug, Drop)]
+#[derive(Drop)]
 pub struct PluginUnread {
     pub plugin: Name,
     pub fault: FileFault,
 }
 
 /// A line of objects that can't be counted.
-#[derive(Debug, Drop)]
+#[derive(Drop)]
 pub struct LineUncounted {
     /// Its number, counted from 1.
     pub number: u64,
