@@ -11,6 +11,13 @@ use Rattle.leb.proofs.Grammar.{spelled, reads}
 use Rattle.leb.proofs.Faults.{Stands, fault_iff, no_fault}
 use Rattle.leb.proofs.Range.{in_range}
 
+-- No number is a fault, and a fault stays the same one, whatever type the numbers have.
+pub still_no_fault : {A B E P : Type 0} {a : A} {e : E} (b : B) → IsErrOf (Ok a) e ↔ P → IsErrOf (Ok b) e ↔ P
+still_no_fault b h = ((λ k. cc k), (λ p. let k = h.1 p in cc k))
+
+pub same_fault : {A B E P : Type 0} {d e : E} → IsErrOf {T = A} (Err d) e ↔ P → IsErrOf {T = B} (Err d) e ↔ P
+same_fault h = ((λ k. h.0 (cc k)), (λ p. let k = h.1 p in cc k))
+
 module _ (s : Sign) (bits at : ℕ) (bytes : List ℕ) where
   pub spelled_at : (r : Result Spelled LebFault) → ((i : ℕ) → get_or bytes i 0 < 256) → Gives bytes r (reading s bits (drop at bytes))
       → IfOk r (λ x. Spells s bits (drop at bytes) (value_of x) (drop x.next bytes))

@@ -69,8 +69,10 @@ pub fn read_u32(bytes: &[u8], at: usize) -> Result<(u32, usize), LebFault>
     ensures too_long { IsErrOf result LebFault.TooLong ↔ IsTooLong 32 (drop at bytes.now) }
     ensures bad_last_byte { IsErrOf result LebFault.BadLastByte ↔ HasBadLastByte unsigned 32 (drop at bytes.now) }
 {
-    let found = read(bytes, at, 32, false)?;
-    Ok((found.low as u32, found.next))
+    match read(bytes, at, 32, false) {
+        Ok(found) => Ok((found.low as u32, found.next)),
+        Err(fault) => Err(fault),
+    }
 }
 
 /// Reads a signed number of 32 bits from `at` on. Gives the number, and the place after its last
@@ -85,8 +87,10 @@ pub fn read_i32(bytes: &[u8], at: usize) -> Result<(i32, usize), LebFault>
     ensures too_long { IsErrOf result LebFault.TooLong ↔ IsTooLong 32 (drop at bytes.now) }
     ensures bad_last_byte { IsErrOf result LebFault.BadLastByte ↔ HasBadLastByte signed 32 (drop at bytes.now) }
 {
-    let found = read(bytes, at, 32, true)?;
-    Ok((i32_of(found), found.next))
+    match read(bytes, at, 32, true) {
+        Ok(found) => Ok((i32_of(found), found.next)),
+        Err(fault) => Err(fault),
+    }
 }
 
 /// Reads a signed number of 64 bits from `at` on. Gives the number, and the place after its last
@@ -101,8 +105,10 @@ pub fn read_i64(bytes: &[u8], at: usize) -> Result<(i64, usize), LebFault>
     ensures too_long { IsErrOf result LebFault.TooLong ↔ IsTooLong 64 (drop at bytes.now) }
     ensures bad_last_byte { IsErrOf result LebFault.BadLastByte ↔ HasBadLastByte signed 64 (drop at bytes.now) }
 {
-    let found = read(bytes, at, 64, true)?;
-    Ok((i64_of(found), found.next))
+    match read(bytes, at, 64, true) {
+        Ok(found) => Ok((i64_of(found), found.next)),
+        Err(fault) => Err(fault),
+    }
 }
 
 // A number as it is found: `low`, or -1 - `low` where it is negative, and the place after it.

@@ -1,7 +1,7 @@
 -- Facts about flags and the list of the places where they are set.
-use Rattle.std.proofs.Common.{◌≡◌, ℕ, ◌+◌, ◌*◌, ◌/◌, ◌<◌, ◌≤◌, Bool, true, false, cond, List, [], ◌∷◌, ◌++◌, length, get_or, set, refl, sym, subst, ap, ◌∙◌, inl, inr, arith, length-set, length-append, get_or-set_other}
+use Rattle.std.proofs.Common.{◌≡◌, ℕ, ◌+◌, ◌*◌, ◌/◌, ◌<◌, ◌≤◌, Bool, true, false, cond, List, [], ◌∷◌, ◌++◌, length, get_or, set, refl, sym, subst, ap, ◌∙◌, inl, inr, arith, length-set, length-append, get_or-set_other, get_or-set_same}
 use Rattle.std.specs.List.{count_by, Contains}
-use Rattle.std.proofs.lemmas.List.Elements.{All-append, Contains-push, Contains-append_left}
+use Rattle.std.proofs.lemmas.List.Elements.{All-append, Contains-push, Contains-push_cases, Contains-append_left}
 use Rattle.std.proofs.lemmas.List.Sums.{count_by-le-length, sum_by-set, sum_by-append}
 use Rattle.std.proofs.lemmas.List.{get_or_append_left, get_or_past, get_or_push}
 use Rattle.std.proofs.lemmas.Grind.{get_or_head}
@@ -77,3 +77,33 @@ all_marked flags large count all marked = record {
     | inr past ↦ get_or_past flags page false (omega (arith, past, all))
   ];
 }
+
+not_both : {flag : Bool} → flag ≡ true → flag ≡ false → ⊥
+not_both t f = let e = sym t ∙ f in cc e
+
+one_at_most : (flag : Bool) → cond (is_set flag) 1 0 ≤ 1
+one_at_most true = omega arith
+one_at_most false = omega arith
+
+-- the page that was noted last is taken off
+pub take_listed : (flags : List Bool) (order : List ℕ) (room later page : ℕ) → IsListed (record { flags = flags; order = order ++ page ∷ []; room = room })
+    → IsListed (record { flags = set flags page false; order = order; room = later })
+take_listed flags order room later page listed =
+    let one : Bool → ℕ = λ flag. cond (is_set flag) 1 0 in
+    let all : length (order ++ page ∷ []) ≡ length order + 1 = length-append order (page ∷ []) in
+    let within : page < length flags = subst (λ (p : ℕ). p < length flags) (get_or_push order page page (length order) refl) (listed.within (length order) page (omega (arith, all))) in
+    let same : length (set flags page false) ≡ length flags = length-set flags page false in
+    record {
+      covers = λ other is. elim (cases_eq page other) [
+        | inl e ↦
+            let unset = get_or-set_same flags page false false within in
+            let here = ap (λ (p : ℕ). get_or (set flags page false) p false) e in
+            absurd (not_both is (sym here ∙ unset))
+        | inr ne ↦ elim (Contains-push_cases order page other (listed.covers other (sym (get_or-set_other flags page other false false (λ e. ne (sym e))) ∙ is))) [
+          | inl there ↦ there
+          | inr e ↦ absurd (ne e)
+        ]
+      ];
+      within = λ k d h. rw same (subst (λ (p : ℕ). p < length flags) (get_or_append_left order (page ∷ []) d k h) (listed.within k d (omega (arith, all, h))));
+      few = omega (arith, all, listed.few, sum_by-set one flags page false true within, one_at_most (get_or flags page true));
+    }
