@@ -1,5 +1,5 @@
 -- Where pieces begin, and what they are together.
-use Rattle.std.proofs.Common.{◌≡◌, ℕ, zero, suc, ◌+◌, ◌-◌, ◌*◌, ◌/◌, ◌%◌, ◌<◌, ◌≤◌, List, ◌++◌, length, take, drop, ap, sym, ◌∙◌, add-one, zero-add, arith}
+use Rattle.std.proofs.Common.{◌≡◌, ℕ, zero, suc, ◌+◌, ◌-◌, ◌*◌, ◌/◌, ◌%◌, ◌<◌, ◌≤◌, List, ◌++◌, length, take, drop, ap, refl, sym, ◌∙◌, add-one, zero-add, arith}
 use Rattle.std.proofs.Math.Nat.{mul_assoc, mul_comm, mul-add, mul-add-div_right, mul-div_right, mul-le-mul_right, div-mul-le_self, div-le_self}
 use Rattle.std.proofs.Math.Seq.{take-add}
 use Rattle.std.proofs.lemmas.Nat.{div-add-mod', le-div}
@@ -55,6 +55,16 @@ pieces_are_all nodes pieces some =
 between : (nodes pieces first many half : ℕ) → 0 < pieces → half ≤ many → (begins nodes pieces first ≤ begins nodes pieces (first + half)) × (begins nodes pieces (first + half) ≤ begins nodes pieces (first + many))
 between nodes pieces first many half some within =
     (begins_rise nodes pieces first (first + half) some (omega arith), begins_rise nodes pieces (first + half) (first + many) some (omega (arith, within)))
+
+-- the first of some pieces
+pub front_pieces : (nodes pieces first many half places : ℕ) → 0 < half → half ≤ many → ArePieces nodes pieces first many places →
+    ArePieces nodes pieces first half (places_of nodes pieces first half)
+front_pieces nodes pieces first many half places some within are = record {
+  some = some;
+  few = are.few;
+  there = omega (arith, are.there, within);
+  all = refl;
+}
 
 -- the pieces behind the first ones
 pub behind : (nodes pieces first many half : ℕ) → half ≤ many → begins nodes pieces (first + half + (many - half)) ≡ begins nodes pieces (first + many)

@@ -1,6 +1,6 @@
 -- Labels and taints that are packed alike are the same.
-use Rattle.std.proofs.Common.{◌≡◌, ℕ, ◌+◌, List, [], ◌∷◌, ◌++◌, length, take, drop, refl, sym, ap, ◌∙◌, arith}
-use Rattle.std.proofs.lemmas.List.{append_assoc}
+use Rattle.std.proofs.Common.{◌≡◌, ℕ, ◌+◌, ◌<◌, List, [], ◌∷◌, ◌++◌, length, take, drop, get_or, refl, sym, ap, ◌∙◌, arith}
+use Rattle.std.proofs.lemmas.List.{append_assoc, flat_map_more, take_more}
 use Rattle.std.proofs.Math.Seq.{take-append_seam, drop-append_seam}
 use Rattle.std.specs.List.{flat_map}
 use Rattle.quant.specs.declared.amount.Res.{Res}
@@ -95,3 +95,9 @@ pub behind_name : (named : ℕ) (name rest : List ℕ) → named ≡ 1 + length 
 behind_name named name rest e =
     let whole : named ≡ length (packed_text name) = e ∙ omega arith in
     ap (λ n. drop n (packed_text name ++ rest)) whole ∙ drop-append_seam (packed_text name) rest
+
+-- what is packed of one item more stands behind what is packed of those in front of it
+pub one_more : {X : Type 0} (f : X → List ℕ) (xs : List X) (i : ℕ) (x : X) → i < length xs → x ≡ get_or xs i x
+    → flat_map f (take i xs) ++ f x ≡ flat_map f (take (i + 1) xs)
+one_more f xs i x h e =
+    ap (λ y. flat_map f (take i xs) ++ f y) e ∙ flat_map_more f [] (take i xs) (get_or xs i x) ∙ ap (flat_map f) (sym (take_more xs i x h))

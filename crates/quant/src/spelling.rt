@@ -20,7 +20,7 @@ const MAX_FRACTION: usize = 3;
 ///
 /// Errors: `BadQuantity` where the text is none of these, and else `TooLarge` where the amount is
 /// above 2^30 thousandths of a core.
-#[tactic(auto, using(crate::proofs::GrammarLemmas::cpu_grammar), unfolding(crate::specs::Amount::cpu_read))]
+#[tactic(auto, unfolding(crate::specs::Amount::cpu_read))]
 pub fn read_cpu(text: &[u8]) -> Result<Cpu, QuantFault>
     ensures value { result ≡ cpu_read text.now }
     ensures grammar { (n : ℕ) → (SpellsCpu text.now n ↔ (cpu_spelled text.now ≡ Some n)) }
@@ -45,7 +45,7 @@ pub fn read_cpu(text: &[u8]) -> Result<Cpu, QuantFault>
 ///
 /// Errors: `BadQuantity` where the text is none of these, and else `TooLarge` where the amount is
 /// above 2^44 bytes.
-#[tactic(auto, using(crate::proofs::GrammarLemmas::bytes_grammar), unfolding(crate::specs::Amount::bytes_read))]
+#[tactic(auto, unfolding(crate::specs::Amount::bytes_read))]
 pub fn read_bytes(text: &[u8]) -> Result<Bytes, QuantFault>
     ensures value { result ≡ bytes_read text.now }
     ensures grammar { (n : ℕ) → (SpellsBytes text.now n ↔ (bytes_spelled text.now ≡ Some n)) }

@@ -52,6 +52,15 @@ there_of (Some x) e is = refl
 pub as_put : (pods : Pods) (s : ℕ) (e : Kept) (f : Entry → Entry) → entry_in pods s ≡ Some e → put_in pods s (f e.value) ≡ changed_in pods s f
 as_put pods s e f is = ap (λ (o : Option Kept). set pods s (with_value o (f e.value))) is ∙ sym (ap (λ (o : Option Kept). set pods s (kept_with f o)) is)
 
+-- a slot has its entry still where another value is written in it
+some_with : (o : Option Kept) (w : Entry) → IsSome o → IsSome (with_value o w)
+some_with None w there = there
+some_with (Some e) w there = there
+
+pub there_put : (pods : Pods) (s : ℕ) (w : Entry) → IsSome (entry_in pods s) → IsSome (entry_in (put_in pods s w) s)
+there_put pods s w there =
+    rw (get_or-set_same pods s (with_value (entry_in pods s) w) None (a_slot pods s there)) (some_with (entry_in pods s) w there)
+
 -- a change leaves the name
 same_name_with : (f : Entry → Entry) (o : Option Kept) → option_map (λ (e : Kept). e.name) (kept_with f o) ≡ option_map (λ (e : Kept). e.name) o
 same_name_with f None = refl

@@ -1,5 +1,5 @@
 -- What becomes of a row of slots.
-use Rattle.std.proofs.Common.{◌≡◌, ℕ, ◌+◌, ◌<◌, ◌≤◌, ◌⊎◌, inl, inr, ⊎_elim, List, [], ◌∷◌, ◌++◌, length, take, drop, set, arith, sym, ap, ◌∙◌, subst}
+use Rattle.std.proofs.Common.{◌≡◌, ℕ, ◌+◌, ◌-◌, ◌<◌, ◌≤◌, ◌⊎◌, inl, inr, ⊎_elim, List, [], ◌∷◌, ◌++◌, length, take, drop, set, arith, sym, ap, ◌∙◌, subst}
 use Rattle.std.specs.Prelude.{◌≢◌, Vec}
 use Rattle.std.specs.Global.{Global}
 use Rattle.std.specs.Vec.{with_items}
@@ -64,6 +64,13 @@ front_swapped xs ws len i j fits first second w = record {
 -- a slot of the front is one of all
 pub in_front : (xs slots : List ℕ) (len i : ℕ) → take len slots ≡ xs → len ≤ length slots → i < length xs → i < len
 in_front xs slots len i is fits inside = omega (arith, ap length is, length-take-le len slots fits)
+
+-- the last slot of the front stands once, so that the front before it has it no more
+pub last_once : (slots places : List ℕ) (len s : ℕ) → IsInverse slots places → 0 < len → len ≤ length slots → s ≡ at slots (len - 1) → IsIn (take (len - 1) slots) s → ⊥
+last_once slots places len s inverse some within is there =
+    let low : there.place < len - 1 = omega (arith, length-take (len - 1) slots, there.within) in
+    let one : at slots there.place ≡ at slots (len - 1) = sym (get_or-take (len - 1) slots there.place 0 low) ∙ there.is ∙ is in
+    omega (arith, sym (inverse.knows there.place (omega arith)) ∙ ap (at places) one ∙ inverse.knows (len - 1) (omega arith))
 
 -- what was written over a row's parts is a row where it's inverse
 pub row_written : (slots places : Vec ℕ Global) (ws vs : List ℕ) (len : ℕ) → length ws ≡ slots.len → length vs ≡ places.len → IsInverse ws vs → len ≤ slots.len → slots.len ≤ MAX_QUEUED → IsRow (with_items slots ws) (with_items places vs) len

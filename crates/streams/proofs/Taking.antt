@@ -66,6 +66,19 @@ filled (Some xs) (Some ys) rest piece none h = ap (λ t. t ++ xs) none ∙ h
 pub unread : (known : Option (List ℕ)) → Consumes known known []
 unread known = Consumes-nil known
 
+take-none : (n : ℕ) → take {A = ℕ} n [] ≡ []
+take-none zero = refl
+take-none (suc n) = refl
+
+-- nothing is taken yet
+pub nothing_yet : (most : ℕ) (known : Option (List ℕ)) (line : List ℕ) → line ≡ [] → IsTaken most known known line false []
+nothing_yet most known line none = record {
+  is_line = λ k d below. absurd (omega arith);
+  kept_is = none ∙ sym (take-none most);
+  consumed = unread known;
+  begun_is = refl;
+}
+
 -- more of the source is read, and none of it taken
 pub IsTaken-more : (most : ℕ) (first old new : Option (List ℕ)) (line : List ℕ) (begun : Bool) (taken : List ℕ) → Consumes old new [] → IsTaken most first old line begun taken → IsTaken most first new line begun taken
 IsTaken-more most first old new line begun taken read so_far = record {

@@ -1,4 +1,4 @@
-use Rattle.std.proofs.Common.{◌≡◌, ℕ, ◌+◌, ◌-◌, ◌≤◌, List, length, arith, sym, ap, ◌∙◌, subst}
+use Rattle.std.proofs.Common.{◌≡◌, ℕ, ◌+◌, ◌-◌, ◌≤◌, List, length, arith, refl, sym, ap, ◌∙◌, subst}
 use Rattle.queue.specs.inside.Row.{at, IsSwapped, IsPushed, IsWithout}
 use Rattle.queue.proofs.Rows.{same_again, same_swapped, without}
 use Rattle.queue.proofs.Heaps.{replaced, all_popped}
@@ -87,3 +87,13 @@ returns-then-place-last-clause-counted c =
     (power_alone (c.fall-leaf.new.count - c.args.count.now) c.place_of-place.result (c.fall-leaf.result + 1) c.fall-leaf.ensures.counted) leaf in
     let up : c.rise.new.count ≤ c.fall-leaf.new.count + 13 = at_most_13 c.rise.new.count c.fall-leaf.new.count _ c.rise.ensures.counted (omega (arith, leaf)) in
     omega (arith, down, up)
+
+pub returns-else-place-last-clause-without : goal.returns-else-place-last-clause-without
+returns-else-place-last-clause-without c =
+    let xs = c.args.row.now.slots in let ys = c.swap.new.self.slots in let zs = c.pop.new.self.slots in
+    let swapped = c.swap.ensures.swapped in
+    let is : c.pop.result ≡ c.args.slot = popped_slot xs ys zs c.place_of-place.result (c.len-last.result - 1) c.pop.result c.args.slot swapped c.pop.ensures.popped (omega arith) c.place_of-place.ensures.is in
+    subst (IsWithout xs zs) is
+    (without xs ys zs zs c.pop.result
+    (same_swapped xs ys c.place_of-place.result (c.len-last.result - 1) swapped c.place_of-place.ensures.within (omega arith))
+    c.pop.ensures.popped c.pop.ensures.gone record { len = refl; there = λ s is_in. is_in; back = λ s is_in. is_in })

@@ -4,7 +4,7 @@ use Rattle.queued.specs.Entry.{is_in_flight}
 use Rattle.queue.specs.inside.Index.{state_in}
 use Rattle.queued.specs.Change.{applied}
 use Rattle.queue.proofs.Indexes.{changed, stands_as, state_of, written}
-use Rattle.queue.proofs.Changes.{put_is}
+use Rattle.queue.proofs.Changes.{put_is, there_put}
 use Rattle.queue.proofs.slots.change.Goals as goal
 
 -- entries are compared where a pod leaves a heap, and where it enters one
@@ -59,3 +59,6 @@ returns-clause-to_flight c = λ flies.
     let pods = put_in c.args.pods.now c.args.slot c.apply.new.self in
     let stands : state_in pods c.args.slot ≡ Some c.state-after.result = state_of _ _ c.value_at-2.ensures.value ∙ ap Some (sym c.state-after.ensures) in
     only_left _ _ (c.enter.ensures.none (sym (stands_as is_in_flight pods c.args.slot _ _ stands refl) ∙ flies)) c.leave.ensures.counted
+
+pub value_at-requires-2 : goal.value_at-requires-2
+value_at-requires-2 c = there_put c.args.pods.now c.args.slot c.apply.new.self c.requires.there

@@ -1,7 +1,8 @@
-use Rattle.std.proofs.Common.{◌≡◌, ◌++◌, ◌<◌, true, false, Ok, length, ap, subst, arith, rules}
+use Rattle.std.proofs.Common.{◌≡◌, inl, ◌∙◌, [], ◌++◌, ◌<◌, true, false, Ok, length, ap, subst, refl, arith, rules}
 use Rattle.std.proofs.lemmas.List.{length-append}
+use Rattle.std.proofs.lemmas.Result.{IfOk-from_err, err_from_is_err_and}
 use Rattle.streams.specs.inside.Lines.{TakesPiece}
-use Rattle.streams.proofs.Taking.{IsTaken-more, IsTaken-piece, told-still, TakesFront-newline, TakesFront-last, length-kept, less_left, nothing_taken}
+use Rattle.streams.proofs.Taking.{IsTaken-more, IsTaken-piece, told-still, TakesFront-newline, TakesFront-last, length-kept, less_left, nothing_taken, nothing_yet}
 use Rattle.streams.proofs.lines.LineReader.next_front.Goals as goal
 
 pub take_piece-requires : goal.take_piece-requires
@@ -43,3 +44,22 @@ pieces-preserved g c =
       λ _. told-still _ _ _ _ c.pieces.invariant.3 c.in_ok-has_more.ensures.kept piece.1 cut.0,
       omega (arith, length-append c.pieces.invariant.0 piece.0, ap length cut.0, ap length cut.1, c.pieces.invariant.4, c.in_ok-has_more.ensures.left),
     )
+
+pub returns-in_err-has_more-clause-short : goal.returns-in_err-has_more-clause-short
+returns-in_err-has_more-clause-short g c = IfOk-from_err _ _ c.from_residual.ensures.0
+
+pub returns-then-not-branch-clause-short : goal.returns-then-not-branch-clause-short
+returns-then-not-branch-clause-short g c =
+    omega (arith, length-kept _ _ _ c.pieces.invariant.1.kept_is, c.pieces.line.ok.0)
+
+pub returns-then-ended-clause-short : goal.returns-then-ended-clause-short
+returns-then-ended-clause-short g c =
+    omega (arith, length-kept _ _ _ c.in_ok-ended.ensures.2, c.take_piece.new.line.ok.0)
+
+pub pieces-init : goal.pieces-init
+pieces-init g c = ([], nothing_yet _ _ _ c.clear.ensures.items, refl, c.requires.told, omega arith)
+
+pub returns-in_err-has_more-clause-faults : goal.returns-in_err-has_more-clause-faults
+returns-in_err-has_more-clause-faults g c =
+    let fault = err_from_is_err_and c.from_residual.result c.from_residual.ensures.1 in
+    rw fault.1 (inl (fault.2 ∙ c.in_err-has_more.ensures.faults))
