@@ -1,4 +1,5 @@
-use Rattle.std.proofs.Common.{◌∙◌, ap, arith, subst}
+use Rattle.std.proofs.Common.{◌∙◌, length, ap, sym, arith, subst}
+use Rattle.std.proofs.lemmas.List.{length-map}
 use Rattle.std.specs.Arc.{arc_value}
 use Rattle.choose.specs.Choice.{AreVerdicts, Choice}
 use Rattle.pool.proofs.Collecting.{choice_is}
@@ -22,3 +23,10 @@ pub send_all-requires-clause-pieces : goal.send_all-requires-clause-pieces
 send_all-requires-clause-pieces g c =
     let same = ap (λ a. a.pieces) c.in-Ok.ensures.ok in
     omega (arith, same, c.requires.pieces, c.split_at_mut-woken.ensures.front_len)
+
+-- there is a verdict on each row
+pub decide-requires : goal.decide-requires
+decide-requires g c =
+    let rows = simp length-map at (ap length c.rows.ensures) in
+    let asked = ap (λ a. length a.snapshot) (c.asked.ensures ∙ (c.deref-2.ensures ∙ c.in-Ok.ensures.ok)) in
+    c.judge_and_collect.auto.verdicts ∙ (c.requires.places ∙ sym (rows ∙ asked))

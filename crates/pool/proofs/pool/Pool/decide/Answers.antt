@@ -1,9 +1,19 @@
-use Rattle.std.proofs.Common.{◌<◌, [], ◌∷◌, length, OnOk, IfOk, sym, ◌∙◌, ap, subst}
-use Rattle.std.proofs.lemmas.List.{with_items_is}
+use Rattle.std.proofs.Common.{◌<◌, [], ◌∷◌, length, OnOk, IfOk, sym, ◌∙◌, ap, subst, arith}
+use Rattle.std.proofs.lemmas.List.{length-map, with_items_is}
 use Rattle.choose.specs.Choice.{Choice, AreVerdicts}
 use Rattle.choose.specs.Kits.{rules_of}
 use Rattle.pool.specs.Speaking.{SpeaksFor}
 use Rattle.pool.proofs.pool.Pool.decide.Goals as goal
+
+-- where no verdict is written, the first kit chooses alone
+pub returns-then-count-eq0-clause-chosen : goal.returns-then-count-eq0-clause-chosen
+returns-then-count-eq0-clause-chosen g c =
+    subst (λ pod. Choice (rules_of g.K.Rules.answers c.args.self.now.kits) c.args.snapshot pod c.choose_alone.result) c.deref-then-count-eq0.ensures
+    (subst (λ t. Choice (rules_of g.K.Rules.answers t.kits) c.args.snapshot c.deref-then-count-eq0.result.now c.choose_alone.result) c.self.view_is c.choose_alone.ensures)
+
+-- there is room for a verdict on each row
+pub decide_with-decided-requires-clause-places : goal.decide_with-decided-requires-clause-places
+decide_with-decided-requires-clause-places g c = c.as_mut_slice-2.ensures.len ∙ (c.in-Ok.ensures.len ∙ simp length-map at (ap length c.rows-nodes.ensures))
 
 pub decide_with-decided-requires-clause-few : goal.decide_with-decided-requires-clause-few
 decide_with-decided-requires-clause-few g c = subst (λ hs. length hs < 64) (sym c.as_mut_slice.ensures.value) c.self.invariant.1
@@ -34,3 +44,6 @@ returns-clause-judged g c = λ _.
 
 pub returns-clause-kits : goal.returns-clause-kits
 returns-clause-kits g c = ap (λ kit. kit ∷ []) c.decide_with-decided.ensures.stays ∙ ap (λ t. t.kits) c.self.view_is
+
+pub nonzero_div-nodes : goal.nonzero_div-nodes
+nonzero_div-nodes g c = omega (arith, c.saturating_add.ensures)
