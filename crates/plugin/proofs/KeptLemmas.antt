@@ -41,6 +41,15 @@ pub all_inserted : {A : Type 0} (P : A → Type 0) (xs : List A) (i : ℕ) (x : 
 all_inserted P xs i x true all is = all_insert P xs i x all is
 all_inserted P xs i x false all is = all
 
+all_more : {A : Type 0} (P : A → Type 0) (xs : List A) (x : A) → AllByRecursion P xs → P x → AllByRecursion P (xs ++ x ∷ [])
+all_more P [] x all is = (is, tt)
+all_more P (y ∷ ys) x all is = (all.0, all_more P ys x all.1 is)
+
+-- one more behind them, where there is room for it
+pub all_pushed : {A : Type 0} (P : A → Type 0) (xs : List A) (x : A) (there : Bool) → AllByRecursion P xs → P x → AllByRecursion P (if there then xs ++ x ∷ [] else xs)
+all_pushed P xs x true all is = all_more P xs x all is
+all_pushed P xs x false all is = all
+
 pub all_set : {A : Type 0} (P : A → Type 0) (xs : List A) (i : ℕ) (x : A) → AllByRecursion P xs → P x → AllByRecursion P (slice_set xs i x)
 all_set P [] i x all is = tt
 all_set P (y ∷ ys) zero x all is = (is, all.1)
