@@ -9,9 +9,9 @@ ghost use Rattle.objects.specs.Site.{site_of};
 
 use crate::live_run::serve_live;
 use fault_line::{Fault, report};
-use pool::{Blank, MAX_KITS, NoGate, Pool, Site as Fleet};
 use objects::Site;
 use output_lines::NamedRule;
+use pool::{Blank, MAX_KITS, NoGate, Pool, Site as Fleet};
 use rules::Rules;
 use std::alloc::Global;
 use std::hash::RandomState;

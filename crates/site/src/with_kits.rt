@@ -8,8 +8,8 @@ ghost use Rattle.engine.specs.Run.{IsRun};
 ghost use Rattle.output_lines.specs.Telling.{telling};
 
 use engine::run;
-use pool::{Blank, MAX_KITS, NoGate, Pool, Site};
 use output_lines::NamedRule;
+use pool::{Blank, MAX_KITS, NoGate, Pool, Site};
 use rules::Rules;
 use std::alloc::Global;
 use std::hash::RandomState;
