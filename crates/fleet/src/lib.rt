@@ -13,6 +13,7 @@ mod laws;
 
 pub use choose::{Decider, Decision, NoMemory};
 pub use fleet::Fleet;
+pub use judging::judge_pieces;
 pub use laws::most_kits_are_these;
-pub use pieces::{Blank, Gate, NoGate, Site, pieces_are_all_nodes};
+pub use pieces::{Blank, Gate, NoGate, Site, Work, pieces_are_all_nodes};
 pub use pool::{MAX_KITS, Pool};
