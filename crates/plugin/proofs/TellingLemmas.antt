@@ -5,7 +5,7 @@ use Rattle.quant.specs.declared.objects.Node.{Node}
 use Rattle.quant.specs.declared.objects.Pod.{Pod}
 use Rattle.whost.specs.declared.records.Versions.{Versions}
 use Rattle.whost.specs.Handed.{pod_records, node_records}
-use Rattle.whost.specs.Record.{pod_bytes3}
+use Rattle.row_record.specs.Record.{pod_bytes3}
 use Rattle.whost.proofs.SamePod.{same_pod}
 
 -- of a node that was kept, if it was

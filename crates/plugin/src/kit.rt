@@ -7,7 +7,7 @@ ghost use Rattle.plugin.specs.Kit.{IsKitOf, ready_parts, IsAtImage, FilterSays, 
 ghost use Rattle.plugin.specs.Refused.{WhyNoKit};
 ghost use Rattle.whost.specs.declared.records.Records.{Records as Handed};
 ghost use Rattle.whost.specs.Handed.{told_of};
-ghost use Rattle.whost.specs.Record.{pod_bytes3};
+ghost use Rattle.row_record.specs.Record.{pod_bytes3};
 ghost use Rattle.plugin.specs.inside.Asked.{Reaches};
 
 use crate::asked::Asked;

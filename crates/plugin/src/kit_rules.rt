@@ -64,7 +64,7 @@ impl KitRules {
 
 impl Rules for KitRules {
     ghost use Rattle.std.specs.Prelude.{◌≡◌};
-    ghost use Rattle.whost.specs.Record.{pod_bytes3};
+    ghost use Rattle.row_record.specs.Record.{pod_bytes3};
     ghost use Rattle.plugin.specs.Kit.{rules_of};
     ghost use Rattle.plugin.specs.inside.Shown.{IsOfNode};
     ghost use Rattle.plugin.specs.inside.OneAnswer.{one_answer};

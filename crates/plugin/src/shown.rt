@@ -1,7 +1,7 @@
 //! What a kit notes of a pod and a node that it is shown.
 ghost use Rattle.std.specs.Prelude.{◌≡◌, ◌<◌, List, Some, length, slice_get};
 ghost use Rattle.whost.specs.Handed.{told_of};
-ghost use Rattle.whost.specs.Record.{pod_bytes3};
+ghost use Rattle.row_record.specs.Record.{pod_bytes3};
 ghost use Rattle.rules.specs.Verdict.{IsWithin};
 ghost use Rattle.plugin.specs.Kit.{Ready, ready_parts, FilterSays, ScoreSays};
 ghost use Rattle.plugin.specs.inside.Kept.{KeptHolds, NewlyHeard};

@@ -2,7 +2,7 @@
 ghost use Rattle.std.specs.Prelude.{◌≡◌, IfSome};
 ghost use Rattle.std.specs.Bool.{IsTrue};
 ghost use Rattle.whost.specs.Handed.{told_of, pod_records, node_records};
-ghost use Rattle.whost.specs.Record.{pod_bytes3};
+ghost use Rattle.row_record.specs.Record.{pod_bytes3};
 
 use crate::kept::same_amounts;
 use quant::{Bytes, Cpu, Name, Pod, Res, SharedNode};

@@ -1,6 +1,3 @@
-pub mod KeyOrderLemmas
-pub mod RecordLemmas
-pub mod FieldLemmas
 pub mod SegmentLemmas
 pub mod Unasked
 pub mod InstanceLemmas

@@ -7,8 +7,8 @@ use Rattle.byteorder.specs.Numbers.{length-bytes_low_first}
 use Rattle.quant.specs.Name.{is_before}
 use Rattle.quant.specs.declared.objects.Label.{Label}
 use Rattle.quant.specs.declared.objects.Pod.{Pod}
-use Rattle.whost.specs.KeyOrder.{put_in_order, in_key_order}
-use Rattle.whost.specs.Record.{number_field, text_field, label_field, labels_field, tolerations_field, pod_bytes, pod_bytes2, pod_bytes3}
+use Rattle.row_record.specs.KeyOrder.{put_in_order, in_key_order}
+use Rattle.row_record.specs.Record.{number_field, text_field, label_field, labels_field, tolerations_field, pod_bytes, pod_bytes2, pod_bytes3}
 use Rattle.whost.specs.Handed.{pod_records}
 
 -- of two lists that begin with parts of one length these are the same, and so is what follows

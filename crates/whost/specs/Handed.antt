@@ -7,7 +7,7 @@ use Rattle.whost.specs.declared.records.Records.{Records}
 use Rattle.whost.specs.declared.records.Versions.{Versions}
 use Rattle.whost.specs.declared.sight.Shows.{Shows}
 use Rattle.whost.specs.declared.sight.Shows.TheVariants.{All, ThisPod, Class, ClassAndRow, ClassAndNode}
-use Rattle.whost.specs.Record.{pod_bytes, pod_bytes2, pod_bytes3, node_bytes, node_bytes2, node_bytes3}
+use Rattle.row_record.specs.Record.{pod_bytes, pod_bytes2, pod_bytes3, node_bytes, node_bytes2, node_bytes3}
 
 -- by the number of the function: 0 is `sched.pod`, 1 is `sched.node`, 2 is `sched2.pod`, 3 is
 -- `sched2.node`, 4 is `sched3.pod`, 5 is `sched3.node`

@@ -1,6 +1,3 @@
-pub mod KeyOrder
-pub mod Record
-pub mod Laws
 pub mod Handed
 pub mod Image
 pub mod Refused

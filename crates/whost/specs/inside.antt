@@ -1,3 +1,1 @@
-pub mod KeyOrder
 pub mod Sight
-pub mod Packed

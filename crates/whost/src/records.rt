@@ -3,9 +3,8 @@
 ghost use Rattle.std.specs.Prelude.{◌≡◌, []};
 ghost use Rattle.whost.specs.Handed.{pod_records, node_records};
 
-use crate::record::Record;
-use crate::rows::{node_record3, pod_record, pod_record3, shared_record};
 use quant::{Pod, Res, SharedNode};
+use row_record::{Record, node_record3, pod_record, pod_record3, shared_record};
 use wmach::Host;
 
 /// A record in versions 1, 2 and 3.
@@ -31,7 +30,7 @@ impl Versions {
     }
 
     // Makes them those of a pod.
-    #[tactic(auto, unfolding(crate::specs::Record::pod_bytes, crate::specs::Record::pod_bytes2))]
+    #[tactic(auto, unfolding(row_record::specs::Record::pod_bytes, row_record::specs::Record::pod_bytes2))]
     fn show_pod(&mut self, pod: &Pod)
         ensures { self.new ≡ pod_records pod.now }
     {
@@ -42,7 +41,7 @@ impl Versions {
     }
 
     // Makes them those of a node on which pods use so much.
-    #[tactic(auto, unfolding(crate::specs::Record::node_bytes, crate::specs::Record::node_bytes2))]
+    #[tactic(auto, unfolding(row_record::specs::Record::node_bytes, row_record::specs::Record::node_bytes2))]
     fn show_node(&mut self, node: &SharedNode, used: &Res)
         ensures { self.new ≡ node_records node.now used.now }
     {

@@ -3,7 +3,7 @@ use Rattle.std.specs.Prelude.{◌≡◌, ℕ, List, Some, slice_get}
 use Rattle.std.specs.List.{AllByRecursion}
 use Rattle.quant.specs.declared.amount.Res.{Res}
 use Rattle.quant.specs.declared.objects.Node.{Node}
-use Rattle.whost.specs.Record.{node_bytes3}
+use Rattle.row_record.specs.Record.{node_bytes3}
 use Rattle.whost.specs.Handed.{node_records}
 use Rattle.whost.specs.declared.records.Records.{Records}
 use Rattle.plugin.specs.declared.answers.Heard.{Heard}

@@ -1,0 +1,3 @@
+pub mod KeyOrderLemmas
+pub mod RecordLemmas
+pub mod FieldLemmas

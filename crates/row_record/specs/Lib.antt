@@ -1,0 +1,4 @@
+pub mod KeyOrder
+pub mod Laws
+pub mod Record
+pub mod inside

@@ -1,5 +1,0 @@
-use Rattle.whost.proofs.KeyOrderLemmas.{order_moves, order_rises}
-use Rattle.whost.proofs.laws.labels_are_in_order.Goals as goal
-
-pub returns : goal.returns
-returns c = record { same = order_moves; rising = order_rises }
