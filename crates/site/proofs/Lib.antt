@@ -1,9 +1,6 @@
 pub mod Agreeing
 pub mod Decisions
 pub mod Ends
-pub mod Fronts
 pub mod Quiet
 pub mod SameSite
 pub mod SiteOutput
-pub mod Sites
-pub mod Verdicts

@@ -1,4 +1,4 @@
--- What holds where a fault of the words ends the program.
+-- What holds of an output, and of a fault of the script.
 use Rattle.std.proofs.Common.{◌≡◌, List, [], ℕ, Option, sym, refl, arith}
 use Rattle.rules.specs.RuleSet.{RuleSet}
 use Rattle.std.proofs.lemmas.List.{append-nil}
@@ -11,9 +11,7 @@ use Rattle.streams.specs.declared.fault.RunFault.TheVariants as run_fault
 use Rattle.output_lines.specs.Telling.{Telling}
 use Rattle.manifest.specs.declared.fault.LineFault.{LineFault}
 use Rattle.fault_line.specs.Fault.{status_of}
-use Rattle.fault_line.specs.Message.{message_of, run_text}
-use Rattle.fault_line.specs.declared.fault.Fault.TheVariants.{Words, Run}
-use Rattle.command.specs.declared.fault.WordFault.TheVariants as word_fault
+use Rattle.fault_line.specs.declared.fault.Fault.TheVariants.{Run}
 
 -- the whole output is a beginning of it
 pub output_front : (rules : RuleSet) (telling : Telling) (script : List ℕ) (old new : Option (List ℕ)) → WritesOutput rules telling script old new → WritesFront rules telling script old new
@@ -31,11 +29,6 @@ output_front rules telling script old new (text, output, writes) = (
   },
   writes,
 )
-
--- want of memory is told in the same words, whatever it was wanted for
-pub no_memory_told : message_of (Words word_fault.NoMemory) ≡ message_of (Run run_fault.NoMemory)
-unfolding message_of run_text
-no_memory_told = refl
 
 -- a run ends with status 1 at a faulty line alone
 pub at_a_line : (fault : RunFault) → status_of (Run fault) ≡ 1 → (number : ℕ) × (told : LineFault) × (fault ≡ run_fault.Line number told)

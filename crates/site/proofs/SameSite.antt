@@ -33,8 +33,9 @@ use Rattle.engine.proofs.SameOutput.{all_answered}
 use Rattle.command.specs.Words.{SpecSyntax}
 use Rattle.engine.proofs.Explained.{asking_changes_nothing, explained_output, plain_output}
 use Rattle.site.specs.Laws.{FilesGiveModules, OneSiteOutput, SiteAskingChangesNothing, SiteExplainedOutput, SiteFrontsAgree, SiteFrontsBeginOutput, SitePlainOutput}
-use Rattle.site.specs.Site.{ArePlugins, IsPlugin, IsSiteKit, named_of, told_by}
-use Rattle.site.specs.Verdict.{front_of}
+use Rattle.site.specs.Site.{IsSiteKit, told_by}
+use Rattle.site_modules.specs.Modules.{ArePlugins, IsPlugin, named_of}
+use Rattle.site_modules.specs.Verdict.{front_of}
 use Rattle.site.proofs.Agreeing.{Agree, verdict_by, ruling_by}
 
 -- bytes spell one module

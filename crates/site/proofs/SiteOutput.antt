@@ -9,7 +9,8 @@ use Rattle.output_lines.specs.Telling.{telling}
 use Rattle.streams.specs.Script.{first_fault}
 use Rattle.engine.specs.Output.{WritesOutput, WritesFront}
 use Rattle.command.specs.Words.{SpecSyntax}
-use Rattle.site.specs.Site.{AreSiteKits, IsSiteKit, WritesSiteOutput, WritesSiteFront, named_of, told_by}
+use Rattle.site.specs.Site.{IsSiteKit, WritesSiteOutput, WritesSiteFront, told_by}
+use Rattle.site_modules.specs.Modules.{AreSiteKits, named_of}
 use Rattle.site.proofs.Quiet.{output_front}
 
 -- the first of a site's kits is one, and its rules are the run's

@@ -4,7 +4,8 @@ use Rattle.std.specs.List.{All}
 use Rattle.output_lines.specs.Indented.{without_indented}
 use Rattle.engine.specs.Laws.{AsksNothing, Begins, IsAnswer, IsWith, IsWithLines, asked_of_all, without_questions}
 use Rattle.command.specs.Words.{SpecSyntax}
-use Rattle.site.specs.Site.{AreFromFiles, BeginsSiteOutput, IsSiteOutput}
+use Rattle.site.specs.Site.{BeginsSiteOutput, IsSiteOutput}
+use Rattle.site_modules.specs.Modules.{AreFromFiles}
 
 -- By plugins of these names, weights and fuels, with these bytes of their modules, a script has one
 -- output.

@@ -1,9 +1,5 @@
-pub mod Check
 pub mod Decision
 pub mod Laws
 pub mod Planned
 pub mod Run
 pub mod Site
-pub mod Verdict
-pub mod Version
-pub mod inside

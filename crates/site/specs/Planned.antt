@@ -1,22 +1,11 @@
 -- What a run by words promises that configure plugins, whose modules stand in files.
-use Rattle.std.specs.Prelude.{◌≡◌, ◌≢◌, ℕ, Bool, List, Option}
+use Rattle.std.specs.Prelude.{◌≡◌, ◌≢◌, ℕ, Bool, List}
 use Rattle.streams.specs.Device.{DeviceUse}
 use Rattle.command.specs.Words.{SpecSyntax}
-use Rattle.site.specs.Run.{IsSiteRun, TellsFailures}
-use Rattle.site.specs.Site.{AreFromFiles, UnreadPlugin}
-
--- What a call makes of the files: what each has before it, where that is known, and how many
--- couldn't be opened or read, before and after.
-pub record FilesUse : Type 1 where
-  pub contents : List ℕ → Option (List ℕ)
-  pub failures_old : ℕ
-  pub failures_new : ℕ
-  -- they are as they were
-  pub IsUntouched : Type 0
-
--- the same, of files that were this before the call and are this after it
-abbrev pub files_of : {F : Type 0} → (contents : F → List ℕ → Option (List ℕ)) → (failures : F → ℕ) → (old new : F) → FilesUse
-files_of contents failures old new = record { contents = contents old; failures_old = failures old; failures_new = failures new; IsUntouched = new ≡ old }
+use Rattle.site_modules.specs.Files.{FilesUse}
+use Rattle.site.specs.Run.{IsSiteRun}
+use Rattle.site_modules.specs.Told.{TellsFailures}
+use Rattle.site_modules.specs.Modules.{AreFromFiles, UnreadPlugin}
 
 -- A run by the plugins that the words configure, whose modules stand in their files, which explains
 -- its cycles or not, ended with this status. `Unkeyed` says that there are no keys: then nothing is

@@ -1,19 +1,18 @@
 //! A run of a script, by the rules of a site's plugins.
-ghost use Rattle.std.specs.Prelude.{◌≡◌, ◌≢◌, ◌^◌, ◌<◌, None, IfOk, length, map};
+ghost use Rattle.std.specs.Prelude.{◌≡◌, ◌≢◌, ◌^◌, ◌<◌, None, length, map};
 ghost use Rattle.streams.specs.Device.{use_of};
 ghost use Rattle.command.specs.Within.{IsPlan};
 ghost use Rattle.command.specs.Words.{syntax_of};
-ghost use Rattle.site.specs.Planned.{IsPlannedRun, files_of};
-ghost use Rattle.site.specs.Run.{IsSiteRun, TellsFailures};
-ghost use Rattle.site.specs.Site.{named_of};
+ghost use Rattle.site.specs.Planned.{IsPlannedRun};
+ghost use Rattle.site_modules.specs.Files.{files_of};
+ghost use Rattle.site.specs.Run.{IsSiteRun};
+ghost use Rattle.site_modules.specs.Told.{TellsFailures};
 
-use crate::folder::Files;
-use crate::site::{modules_in, site_kits};
 use crate::with_kits::run_with_kits;
-use command::{Plan, Spec};
+use command::Plan;
 use fault_line::{Fault, report};
-use output_lines::NamedRule;
-use std::alloc::{AllocError, Global};
+use site_modules::{Files, modules_in, named_in, site_kits};
+use std::alloc::Global;
 use std::hash::RandomState;
 use std::sync::Wait;
 use std::thread::Threads;
@@ -68,26 +67,6 @@ pub fn serve<T: Wait + Threads + Copy + Send + Sync + 'static, R: Source, W: Sin
         Ok(()) => 0,
         Err(fault) => report(Fault::Run(fault), err),
     }
-}
-
-/// The plugins' names and weights, in order.
-///
-/// Errors: `AllocError`, where no memory is left.
-pub fn named_in(alloc: Global, specs: &[Spec<'_>]) -> Result<Vec<NamedRule>, AllocError>
-    ensures { IfOk result (λ named. named.items ≡ named_of (map syntax_of specs.now)) }
-{
-    let mut named = Vec::new(alloc);
-    for place in 0..specs.len() {
-        let spec = &specs[place];
-        let rule = NamedRule {
-            name: spec.name.copied(),
-            weight: spec.weight,
-        };
-        if named.push(rule).is_err() {
-            return Err(AllocError);
-        }
-    }
-    Ok(named)
 }
 
 /// Reads the plugins' files and serves a script by them, as `serve` does. That a file can't be read

@@ -10,12 +10,13 @@ use Rattle.fault_line.specs.declared.fault.Fault.{Fault}
 use Rattle.fault_line.specs.declared.fault.Fault.TheVariants.{Run, Words, Misused}
 use Rattle.streams.specs.declared.fault.RunFault.TheVariants as run_fault
 use Rattle.fault_line.specs.Fault.{status_of}
-use Rattle.site.specs.Planned.{FilesUse}
+use Rattle.site_modules.specs.Files.{FilesUse}
 use Rattle.wsched.specs.Answer.{IsAnswer, IsDone}
-use Rattle.site.specs.Run.{TellsFault, told_of}
-use Rattle.site.proofs.Ends.{not_begun, told}
-use Rattle.site.proofs.Quiet.{no_memory_told}
-use Rattle.wsched.proofs.StormEnds.{storm_not_begun}
+use Rattle.site_modules.specs.Told.{TellsFault, told_of}
+use Rattle.site.proofs.Ends.{not_begun}
+use Rattle.site_modules.proofs.Failures.{told}
+use Rattle.site_modules.proofs.Failures.{no_memory_told}
+use Rattle.storm_site.proofs.StormEnds.{storm_not_begun}
 use Rattle.translator.proofs.Translated.{nothing_translated}
 
 module _ (Unkeyed : Type 0) (files : FilesUse) (source out err : DeviceUse) (ended : ℕ) where

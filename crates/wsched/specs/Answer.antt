@@ -8,12 +8,13 @@ use Rattle.fault_line.specs.declared.fault.Fault.{Fault}
 use Rattle.fault_line.specs.declared.fault.Fault.TheVariants.{Run, Words}
 use Rattle.fault_line.specs.Fault.{status_of}
 use Rattle.translator.specs.Translate.{Manner, IsTranslated}
-use Rattle.site.specs.Check.{CannotRead, IsCheck}
-use Rattle.site.specs.Planned.{FilesUse, IsPlannedRun}
-use Rattle.site.specs.Run.{TellsFault, told_of}
-use Rattle.wsched.specs.Live.{IsPlannedLive, read_for}
-use Rattle.wsched.specs.Storm.{IsPlannedStorm}
-use Rattle.site.specs.Version.{TellsVersion}
+use Rattle.site_modules.specs.Check.{CannotRead, IsCheck}
+use Rattle.site.specs.Planned.{IsPlannedRun}
+use Rattle.site_modules.specs.Files.{FilesUse}
+use Rattle.site_modules.specs.Told.{TellsFault, told_of}
+use Rattle.live_site.specs.Live.{IsPlannedLive, read_for}
+use Rattle.storm_site.specs.Storm.{IsPlannedStorm}
+use Rattle.site_modules.specs.Version.{TellsVersion}
 
 -- a check of the module in this file ended with this status, and the source is as it was
 pub record IsFileCheck (file : List ℕ) (files : FilesUse) (source out err : DeviceUse) (ended : ℕ) : Type 0 where

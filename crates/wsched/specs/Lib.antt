@@ -1,4 +1,1 @@
 pub mod Answer
-pub mod Live
-pub mod Storm
-pub mod inside

@@ -14,20 +14,13 @@
 //! be counted, 2 at bad words, 3 for want of memory or of a place at the desk, and 4 when a file, a
 //! read or a write failed.
 //!
-//! Here are the process's words, streams and files. What is done with them is functions over
-//! streams and files that are handed in:
-//!
-//! - `program`: what is done from the words to the status: a run and a check by `site`, a storm by
-//!   `storm_site`, a translation by `translator`, and what `live` answers by `live_site`.
-//! - `live_site`: a cluster that is decided of by a site's plugins.
-//! - `storm_site`: a storm of a script by a site's plugins, from their files, or from their modules,
-//!   to the exit status, with the binders of `stand_in`, which stand in for a cluster.
+//! Here are the process's words, streams and files. What is done with them, from the words to the
+//! status, are functions over streams and files that are handed in (`program`): a run and a check by
+//! `site`, a storm by `storm_site`, a translation by `translator`, and what `live` answers by
+//! `live_site`.
 #![tactic(auto)]
 
-mod live_site;
 mod program;
-mod stand_in;
-mod storm_site;
 
 use command::arguments;
 use program::answer;

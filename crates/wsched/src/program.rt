@@ -1,19 +1,19 @@
 //! What the program does, from its words to its exit status.
 ghost use Rattle.std.specs.Prelude.{◌≡◌, ◌^◌, ◌<◌, ℕ, List, None, Ok, map};
 ghost use Rattle.streams.specs.Device.{use_of};
-ghost use Rattle.site.specs.Planned.{files_of};
+ghost use Rattle.site_modules.specs.Files.{files_of};
 ghost use Rattle.wsched.specs.Answer.{IsAnswer};
 
-use crate::live_site::live_plan;
-use crate::storm_site::storm_plan;
 use command::{WordFault, Words, misuse_of, words};
 use fault_line::{Fault, report};
+use live_site::live_plan;
 use site::{Files, check_file, serve_plan, tell_version};
 use std::alloc::Global;
 use std::convert::AsStr;
 use std::hash::RandomState;
 use std::sync::Wait;
 use std::thread::Threads;
+use storm_site::storm_plan;
 use streams::{Sink, Source};
 use translator::serve_translation;
 

@@ -3,7 +3,8 @@ use Rattle.command.specs.Words.{syntax_of}
 use Rattle.streams.specs.Device.{use_of}
 use Rattle.streams.specs.declared.fault.RunFault.TheVariants.{NoMemory}
 use Rattle.fault_line.specs.declared.fault.Fault.TheVariants.{Run}
-use Rattle.site.proofs.Ends.{besides_run, cut_short, no_site, no_site_told, not_begun, nothing_told, served, told}
+use Rattle.site.proofs.Ends.{besides_run, cut_short, no_site, not_begun, served}
+use Rattle.site_modules.proofs.Failures.{no_site_told, nothing_told, told}
 use Rattle.site.proofs.site_run.serve.Goals as goal
 
 -- ---- there are no kits of the plugins

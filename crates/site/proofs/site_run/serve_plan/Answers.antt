@@ -2,9 +2,10 @@ use Rattle.std.proofs.Common.{◌≡◌, ◌∙◌, ℕ, List, None, map, inl, i
 use Rattle.command.specs.Words.{syntax_of}
 use Rattle.streams.specs.declared.fault.RunFault.TheVariants as run_fault
 use Rattle.fault_line.specs.declared.fault.Fault.TheVariants.{Run}
-use Rattle.site.specs.Site.{AreFromFiles}
-use Rattle.site.proofs.Ends.{failures_given, modules_status, no_file_failed, no_modules_told, not_begun, run_given, told}
-use Rattle.site.proofs.Sites.{many_modules}
+use Rattle.site_modules.specs.Modules.{AreFromFiles}
+use Rattle.site.proofs.Ends.{not_begun, run_given}
+use Rattle.site_modules.proofs.Failures.{failures_given, modules_status, no_file_failed, no_modules_told, told}
+use Rattle.site_modules.proofs.Sites.{many_modules}
 use Rattle.site.proofs.site_run.serve_plan.Goals as goal
 
 -- ---- there are no keys

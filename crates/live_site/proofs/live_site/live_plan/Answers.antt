@@ -1,0 +1,51 @@
+use Rattle.std.proofs.Common.{◌≡◌, ◌∙◌, ℕ, List, None, map, inl, inr, refl, sym, subst, rules}
+use Rattle.command.specs.Words.{syntax_of}
+use Rattle.streams.specs.declared.fault.RunFault.TheVariants as run_fault
+use Rattle.fault_line.specs.declared.fault.Fault.TheVariants.{Run}
+use Rattle.site_modules.specs.Modules.{AreFromFiles}
+use Rattle.site_modules.proofs.Failures.{no_file_failed}
+use Rattle.site_modules.proofs.Sites.{many_modules}
+use Rattle.live_site.proofs.LiveEnds.{live_given}
+use Rattle.live_site.proofs.live_site.live_plan.Goals as goal
+
+-- ---- there are no keys
+
+pub returns-in_default : goal.returns-in_default
+returns-in_default g c =
+    let none : c.args.keys ≡ None = search rules in
+    record {
+      came = inr (Run run_fault.Read, inl (none, refl), record { status = c.report.ensures.status; tells = c.report.ensures.told; unread = refl; unwritten = refl });
+      files_told = λ _. refl;
+    }
+
+-- ---- the files were read
+
+pub serve_site-requires-clause-modules : goal.serve_site-requires-clause-modules
+serve_site-requires-clause-modules g c κs within =
+    let read = rw c.as_slice.ensures.value at c.in-Ok.ensures.modules in
+    rw c.as_slice-in-Ok.ensures.value (many_modules (λ m. m.items) (g.F.Files.contents c.args.files.now) c.args.plan.now.plan.specs.items c.in-Ok.modules.items read)
+
+pub returns-in-Ok : goal.returns-in-Ok
+returns-in-Ok g c =
+    let read = rw c.as_slice.ensures.value at c.in-Ok.ensures.modules in
+    let here : AreFromFiles (g.F.Files.contents c.args.files.now) (map syntax_of c.args.plan.now.plan.specs.items) (map (λ m. m.items) c.as_slice-in-Ok.result.now) =
+    rw c.as_slice-in-Ok.ensures.value read in
+    let weaker : (given : List (List ℕ)) → given ≡ map (λ m. m.items) c.as_slice-in-Ok.result.now
+    → AreFromFiles (g.F.Files.contents c.args.files.now) (map syntax_of c.args.plan.now.plan.specs.items) given =
+    λ given is. subst (AreFromFiles (g.F.Files.contents c.args.files.now) (map syntax_of c.args.plan.now.plan.specs.items)) (sym is) here in
+    record {
+      came = inl (live_given _ _ _ _ _ _ _ _ weaker c.serve_site.ensures);
+      files_told = λ _. c.in-Ok.ensures.read;
+    }
+
+-- ---- they weren't
+
+pub returns-in-Err : goal.returns-in-Err
+returns-in-Err g c =
+    let why = rw c.as_slice.ensures.value at c.in-Err.ensures.failed in
+    let old = g.F.Files.failure_count c.args.files.now in
+    let new = g.F.Files.failure_count c.modules_in.new.files in
+    record {
+      came = inr (c.in-Err.unread, inr why, record { status = c.report-in-Err.ensures.status; tells = c.report-in-Err.ensures.told; unread = refl; unwritten = refl });
+      files_told = λ other. no_file_failed (map syntax_of c.args.plan.now.plan.specs.items) old new c.in-Err.unread why (λ four. other (c.report-in-Err.ensures.status ∙ four));
+    }

@@ -1,8 +1,0 @@
-use Rattle.std.proofs.Common.{◌≡◌, map, take}
-use Rattle.command.specs.Words.{syntax_of}
-use Rattle.site.specs.Site.{named_of}
-use Rattle.site.proofs.site_run.named_in.Given as goal
-
--- the rules so far are those of the first plugins
-abbrev pub invariant-loop-place : goal.invariant-loop-place
-invariant-loop-place l = l.named.items ≡ named_of (take l.place (map syntax_of l.specs))

@@ -1,0 +1,4 @@
+pub mod Failures
+pub mod Fronts
+pub mod Sites
+pub mod Verdicts

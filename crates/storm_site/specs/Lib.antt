@@ -1,0 +1,2 @@
+pub mod Storm
+pub mod inside
