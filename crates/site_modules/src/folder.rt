@@ -85,17 +85,18 @@ impl<R: fs::Files> Files for Folder<'_, R> {
     ghost failure_count = { λ s. s.failures };
 
     fn read_front(&mut self, alloc: Global, name: &str, most: usize) -> Result<Vec<u8>, RunFault> {
-        let mut bytes = vec![in alloc; 0; most]?;
-        match fs::open(self.files, name) {
-            Ok(file) => {
-                if let Ok(len) = fill(&mut Input::new(file), bytes.as_mut_slice()) {
-                    bytes.truncate(len);
-                    return Ok(bytes);
-                }
-                Err(self.failed(Cause::Unreadable))
-            }
-            Err(error) => Err(self.failed(cause_of(error.kind()))),
-        }
+        let Ok(mut bytes) = vec![in alloc; 0; most] else {
+            return Err(RunFault::NoMemory);
+        };
+        let file = match fs::open(self.files, name) {
+            Ok(file) => file,
+            Err(error) => return Err(self.failed(cause_of(error.kind()))),
+        };
+        let Ok(len) = fill(&mut Input::new(file), bytes.as_mut_slice()) else {
+            return Err(self.failed(Cause::Unreadable));
+        };
+        bytes.truncate(len);
+        Ok(bytes)
     }
 
     fn cause(&self) -> Cause {
