@@ -1,4 +1,4 @@
-use Rattle.std.proofs.Common.{◌≡◌, IfSome, inl, inr, sym, subst, rules}
+use Rattle.std.proofs.Common.{◌≡◌, IfSome, inl, inr, sym, subst}
 use Rattle.site_modules.specs.Verdict.{front_of}
 use Rattle.site_modules.proofs.Verdicts.{tells_whole, fronts_whole}
 use Rattle.site_modules.proofs.check.check_file.Goals as goal
@@ -8,7 +8,7 @@ use Rattle.site_modules.proofs.check.check_file.Goals as goal
 pub returns-in-Ok-clause-check : goal.returns-in-Ok-clause-check
 returns-in-Ok-clause-check g c =
     let known = g.F.Files.contents c.args.files.now c.args.name.now in
-    let same : c.as_slice.result.now ≡ c.in-Ok.bytes.items = search rules in
+    let same : c.as_slice.result.now ≡ c.in-Ok.bytes.items = c.as_slice.ensures.value in
     let front : IfSome known (λ whole. c.as_slice.result.now ≡ front_of whole) =
     subst (λ b. IfSome known (λ whole. b ≡ front_of whole)) (sym same) c.in-Ok.ensures.front in
     let checked = c.check_module.ensures in
