@@ -42,7 +42,10 @@ empty_of (x ∷ xs) e =
     let within : length (x ∷ xs) - 1 < length (x ∷ xs) = omega arith in
     let there = slice_get-get_or (x ∷ xs) (length (x ∷ xs) - 1) x within in absurd (cc (there, e))
 
--- a `?` gives the fault on as it is
-pub stop_kept : {T U : Type 0} (r : Result T Stop) (u : Result U Stop) (f y : Stop) → r ≡ Err stops.Untyped → r ≡ Err y → y ≡ f → u ≡ Err f → u ≡ Err stops.Untyped
-stop_kept r u f y e is same was =
-    let untyped : y ≡ stops.Untyped = cc (e, is) in was ∙ ap (λ x. Err x) (sym same ∙ untyped)
+-- where memory ran out, nothing is said to have no typing
+pub not_untyped : {T : Type 0} → ◌≡◌ {A = Result T Stop} (Err stops.NoMemory) (Err stops.Untyped) → ⊥
+not_untyped e = cc
+
+-- a fault that is given on as it is
+pub kept_untyped : {T U : Type 0} (r : Result T Stop) (x : Stop) → r ≡ Err x → ◌≡◌ {A = Result U Stop} (Err x) (Err stops.Untyped) → r ≡ Err stops.Untyped
+kept_untyped r x was e = let same : x ≡ stops.Untyped = cc in was ∙ ap (λ y. Err y) same

@@ -1,6 +1,8 @@
 -- The run that has a local, by how many runs end before it.
-use Rattle.std.proofs.Common.{◌≡◌, ℕ, zero, suc, ◌+◌, ◌-◌, ◌^◌, ◌<◌, ◌≤◌, List, [], ◌∷◌, Bool, true, false, length, get_or, drop, drop-cons, add-one, append_assoc, refl, inl, inr, ◌++◌, sym, ap, ◌∙◌, arith}
+use Rattle.std.proofs.Common.{◌≡◌, ℕ, zero, suc, ◌+◌, ◌-◌, ◌^◌, ◌<◌, ◌≤◌, List, [], ◌∷◌, Bool, true, false, length, get_or, Some, length-append, drop, drop-cons, add-one, append_assoc, refl, inl, inr, ◌++◌, sym, ap, ◌∙◌, arith}
 use Rattle.std.specs.Prelude.{nat_le, slice_get, option_map}
+use Rattle.std.proofs.Math.ListN.{get_or-append}
+use Rattle.std.proofs.lemmas.Option.{slice_get-get_or}
 use Rattle.std.specs.List.{count_by}
 use Rattle.std.specs.List.Sorted.{IsNonDecreasingBy}
 use Rattle.std.specs.List.Sorted.{IsPartitionPoint}
@@ -73,6 +75,12 @@ located start t (r ∷ rs) low high = here (nat_le (end_of start r) t) refl (λ 
         let others = none_ended (end_of start r) t rs next before in
         let none : ended start t (r ∷ rs) ≡ 0 = omega (arith, count, others) in
         in_run r.count r.value (locals_of rs) (t - start) few ∙ ap (λ n. option_map (λ (x : LocalRun). x.value) (slice_get (r ∷ rs) n)) (sym none)
+
+-- the local at an index of a parameter
+pub parameter_at : (parameters others : List ValueType) (index : ℕ) (t : ValueType) → index < length parameters → t ≡ get_or parameters index t → Some t ≡ slice_get (parameters ++ others) index
+parameter_at parameters others index t within is =
+    let long : index < length (parameters ++ others) = omega (arith, within, length-append parameters others) in
+    ap Some is ∙ sym (slice_get-get_or (parameters ++ others) index t long ∙ ap Some (get_or-append parameters others t index within))
 
 -- the local at an index behind the parameters, by the place where the ends are no longer at most it
 pub local_at : (parameters : List ValueType) (runs : List LocalRun) (ends : List ℕ) (index past run : ℕ) → ends ≡ ends_of runs → length parameters ≤ index → index < 2 ^ 32 → past ≡ index - length parameters → run ≤ length ends → IsPartitionPoint (λ e. nat_le e past ≡ true) (λ e. nat_le e past ≡ false) ends run

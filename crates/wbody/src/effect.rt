@@ -1,13 +1,14 @@
 //! What each plain instruction does to the operands.
 
-ghost use Rattle.std.specs.Prelude.{◌≡◌};
-ghost use Rattle.wbody.specs.Context.{Context};
-ghost use Rattle.wbody.specs.Typing.{plain_type, convert_type};
+ghost use Rattle.std.specs.Prelude.{◌≡◌, [], ◌∷◌};
+ghost use Rattle.wbody.specs.Context.{Context, at_most_one};
+ghost use Rattle.wbody.specs.Typing.{plain_type, convert_type, call_type, of_found, only_where, takes_gives};
 ghost use Rattle.wbody.specs.inside.Effect.{effect_type};
-ghost use Rattle.wbody.specs.inside.Scope.{IsScope, labels_of, NamesLocal, NamesGlobal, NamesMemory, NamesLabel, NamesCall};
+ghost use Rattle.wbody.specs.inside.Scope.{IsScope, labels_of, type_found, NamesLocal, NamesGlobal, NamesMemory, NamesLabel, NamesCall};
 
 use crate::operand_stack::Effect;
-use crate::scope::{Level, Scope, alone, constant, is_aligned_to, moves, none_or_alone};
+use crate::scope::{Level, Scope, alone, constant, may_access, moves, none_or_alone};
+use wbin::FunctionType;
 use wcode::{CvtOp, Plain, ValueType};
 
 // What an instruction does under these open blocks, the innermost last.
@@ -17,10 +18,10 @@ pub fn effect_of<'a>(scope: &Scope<'a>, levels: &[Level], plain: Plain) -> Effec
 {
     match plain {
         Plain::Const(value) => constant(value),
-        Plain::Unary(t, _) => moves(Some(t), &[], Some(t)),
-        Plain::Binary(t, _) => moves(Some(t), alone(t), Some(t)),
-        Plain::Test(t, _) => moves(Some(t), &[], Some(ValueType::I32)),
-        Plain::Relation(t, _) => moves(Some(t), alone(t), Some(ValueType::I32)),
+        Plain::Unary(t, _) => changes(t, t),
+        Plain::Binary(t, _) => joins(t, t),
+        Plain::Test(t, _) => changes(t, ValueType::I32),
+        Plain::Relation(t, _) => joins(t, ValueType::I32),
         Plain::Convert(op) => convert_effect(op),
         Plain::Drop => Effect::Drops,
         Plain::Select => Effect::Selects,
@@ -36,17 +37,50 @@ pub fn effect_of<'a>(scope: &Scope<'a>, levels: &[Level], plain: Plain) -> Effec
     }
 }
 
+// It takes no operand, and gives one of this type.
+fn gives<'a>(t: ValueType) -> Effect<'a>
+    ensures { effect_type result ≡ takes_gives [] (t ∷ []) }
+{
+    moves(None, &[], Some(t))
+}
+
+// It takes one operand of this type, and gives none.
+fn takes<'a>(t: ValueType) -> Effect<'a>
+    ensures { effect_type result ≡ takes_gives (t ∷ []) [] }
+{
+    moves(Some(t), &[], None)
+}
+
+// It takes one operand of the first type, and gives one of the second.
+fn changes<'a>(t: ValueType, given: ValueType) -> Effect<'a>
+    ensures { effect_type result ≡ takes_gives (t ∷ []) (given ∷ []) }
+{
+    moves(Some(t), &[], Some(given))
+}
+
+// It takes two operands of the first type, and gives one of the second.
+fn joins<'a>(t: ValueType, given: ValueType) -> Effect<'a>
+    ensures { effect_type result ≡ takes_gives (t ∷ t ∷ []) (given ∷ []) }
+{
+    moves(Some(t), alone(t), Some(given))
+}
+
+// It does this only where that is so.
+fn where_so<'a>(is: bool, effect: Effect<'a>) -> Effect<'a>
+    ensures { effect_type result ≡ only_where is (effect_type effect.entry) }
+{
+    if is { effect } else { Effect::Untyped }
+}
+
 // A conversion.
 fn convert_effect<'a>(op: CvtOp) -> Effect<'a>
     ensures { effect_type result ≡ convert_type op }
 {
     match op {
-        CvtOp::WrapI64 => moves(Some(ValueType::I64), &[], Some(ValueType::I32)),
-        CvtOp::ExtendI32S | CvtOp::ExtendI32U => {
-            moves(Some(ValueType::I32), &[], Some(ValueType::I64))
-        }
-        CvtOp::Extend8S(t) | CvtOp::Extend16S(t) => moves(Some(t), &[], Some(t)),
-        CvtOp::Extend32S => moves(Some(ValueType::I64), &[], Some(ValueType::I64)),
+        CvtOp::WrapI64 => changes(ValueType::I64, ValueType::I32),
+        CvtOp::ExtendI32S | CvtOp::ExtendI32U => changes(ValueType::I32, ValueType::I64),
+        CvtOp::Extend8S(t) | CvtOp::Extend16S(t) => changes(t, t),
+        CvtOp::Extend32S => changes(ValueType::I64, ValueType::I64),
     }
 }
 
@@ -57,15 +91,15 @@ fn local_effect<'a>(scope: &Scope<'a>, plain: Plain) -> Effect<'a>
 {
     match plain {
         Plain::LocalGet(x) => match scope.local(x) {
-            Some(t) => moves(None, &[], Some(t)),
+            Some(t) => gives(t),
             None => Effect::Untyped,
         },
         Plain::LocalSet(x) => match scope.local(x) {
-            Some(t) => moves(Some(t), &[], None),
+            Some(t) => takes(t),
             None => Effect::Untyped,
         },
         Plain::LocalTee(x) => match scope.local(x) {
-            Some(t) => moves(Some(t), &[], Some(t)),
+            Some(t) => changes(t, t),
             None => Effect::Untyped,
         },
         _ => unreachable!(),
@@ -79,17 +113,11 @@ fn global_effect<'a>(scope: &Scope<'a>, plain: Plain) -> Effect<'a>
 {
     match plain {
         Plain::GlobalGet(x) => match scope.global(x) {
-            Some(g) => moves(None, &[], Some(g.value)),
+            Some(g) => gives(g.value),
             None => Effect::Untyped,
         },
         Plain::GlobalSet(x) => match scope.global(x) {
-            Some(g) => {
-                if g.mutable {
-                    moves(Some(g.value), &[], None)
-                } else {
-                    Effect::Untyped
-                }
-            }
+            Some(g) => where_so(g.mutable, takes(g.value)),
             None => Effect::Untyped,
         },
         _ => unreachable!(),
@@ -101,26 +129,17 @@ fn memory_effect<'a>(scope: &Scope<'a>, plain: Plain) -> Effect<'a>
     requires { NamesMemory plain }
     ensures { (c : Context) → IsScope scope.now c → effect_type result ≡ plain_type c plain }
 {
-    if !scope.has_memory {
-        return Effect::Untyped;
-    }
     match plain {
-        Plain::Load(op, arg) => {
-            if is_aligned_to(arg, op.bytes()) {
-                moves(Some(ValueType::I32), &[], Some(op.value_type()))
-            } else {
-                Effect::Untyped
-            }
-        }
-        Plain::Store(op, arg) => {
-            if is_aligned_to(arg, op.bytes()) {
-                moves(Some(op.value_type()), alone(ValueType::I32), None)
-            } else {
-                Effect::Untyped
-            }
-        }
-        Plain::MemorySize => moves(None, &[], Some(ValueType::I32)),
-        Plain::MemoryGrow => moves(Some(ValueType::I32), &[], Some(ValueType::I32)),
+        Plain::Load(op, arg) => where_so(
+            may_access(scope, arg, op.bytes()),
+            changes(ValueType::I32, op.value_type()),
+        ),
+        Plain::Store(op, arg) => where_so(
+            may_access(scope, arg, op.bytes()),
+            moves(Some(op.value_type()), alone(ValueType::I32), None),
+        ),
+        Plain::MemorySize => where_so(scope.has_memory, gives(ValueType::I32)),
+        Plain::MemoryGrow => where_so(scope.has_memory, changes(ValueType::I32, ValueType::I32)),
         _ => unreachable!(),
     }
 }
@@ -149,25 +168,27 @@ fn branch_effect<'a>(scope: &Scope<'a>, levels: &[Level], plain: Plain) -> Effec
     }
 }
 
+// A call of a function of this type, if there is one, with this above the arguments.
+fn called<'a>(found: Option<&'a FunctionType>, above: Option<ValueType>) -> Effect<'a>
+    ensures { effect_type result ≡ of_found (call_type (at_most_one above)) (type_found found.entry) }
+{
+    match found {
+        Some(t) => moves(above, &t.parameters, t.result),
+        None => Effect::Untyped,
+    }
+}
+
 // A call.
 fn call_effect<'a>(scope: &Scope<'a>, plain: Plain) -> Effect<'a>
     requires { NamesCall plain }
     ensures { (c : Context) → IsScope scope.now c → effect_type result ≡ plain_type c plain }
 {
     match plain {
-        Plain::Call(f) => match scope.function(f) {
-            Some(t) => moves(None, &t.parameters, t.result),
-            None => Effect::Untyped,
-        },
-        Plain::CallIndirect(index) => {
-            if !scope.has_table {
-                return Effect::Untyped;
-            }
-            match scope.listed(index) {
-                Some(t) => moves(Some(ValueType::I32), &t.parameters, t.result),
-                None => Effect::Untyped,
-            }
-        }
+        Plain::Call(f) => called(scope.function(f), None),
+        Plain::CallIndirect(index) => where_so(
+            scope.has_table,
+            called(scope.listed(index), Some(ValueType::I32)),
+        ),
         _ => unreachable!(),
     }
 }

@@ -146,11 +146,15 @@ const MOST_END: u64 = 4_294_967_296;
 pub fn run_ends(alloc: Global, runs: &[LocalRun]) -> Result<Vec<u64>, AllocError>
     ensures { IfOk result (λ ends. ends.items ≡ ends_of runs.now) }
 {
-    let mut ends = Vec::with_capacity(alloc, runs.len())?;
+    let Ok(mut ends) = Vec::with_capacity(alloc, runs.len()) else {
+        return Err(AllocError);
+    };
     let mut end = 0;
     for run in runs {
         end = (end + run.count as u64).min(MOST_END);
-        ends.push(end)?;
+        let Ok(()) = ends.push(end) else {
+            return Err(AllocError);
+        };
     }
     Ok(ends)
 }

@@ -10,7 +10,7 @@ loop-run-preserved c =
     let start = c.loop-run.end in
     let rest = drop (i + 1) c.args.runs.now in (
       omega (arith, c.min-end.ensures),
-      ap (λ (l : List ℕ). l ++ ends_from c.min-end.result rest) c.in_ok-push.ensures.items
+      ap (λ (l : List ℕ). l ++ ends_from c.min-end.result rest) c.in-Ok-push.ensures.items
           ∙ ap (λ (n : ℕ). (c.loop-run.ends.items ++ n ∷ []) ++ ends_from n rest) c.min-end.ensures
           ∙ ends_more c.loop-run.ends.items start c.args.runs.now i _ c.loop-run-test.true ∙ c.loop-run.invariant.1,
     )

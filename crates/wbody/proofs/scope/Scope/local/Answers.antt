@@ -4,7 +4,8 @@ use Rattle.std.proofs.lemmas.Option.{slice_get-get_or, slice_get_past}
 use Rattle.std.proofs.lemmas.List.Sorted.{IsPartitionPoint-from_clause, IsPartitionedBy-leb}
 use Rattle.std.specs.List.Sorted.{IsNonDecreasingBy}
 use Rattle.wbin.specs.declared.module.LocalRun.{LocalRun}
-use Rattle.wbody.proofs.RunEnds.{ends_rise, local_at}
+use Rattle.wbin.specs.Syntax.{locals_of}
+use Rattle.wbody.proofs.RunEnds.{ends_rise, local_at, parameter_at}
 use Rattle.wbody.proofs.scope.Scope.local.Goals as goal
 
 pub returns-in-Some-get : goal.returns-in-Some-get
@@ -32,3 +33,8 @@ returns-in-None c =
     let parts = IsPartitionPoint-from_clause (λ (e : ℕ). nat_le e past) ends run c.partition_point-run.ensures.partitioned (IsPartitionedBy-leb (λ (e : ℕ). e) ends past rise) (λ a r f' k. search rules) in
     sym (local_at self.parameters.now runs ends c.args.index past run self.counted c.in_default.ensures.lookup.3 c.ranges.index.fits refl c.partition_point-run.ensures.bound parts
     ∙ ap (option_map (λ (r : LocalRun). r.value)) (slice_get_past runs run c.in-None.ensures.lookup.3))
+
+pub returns-in-Some : goal.returns-in-Some
+returns-in-Some c =
+    let self = c.args.self.now in
+    parameter_at self.parameters.now (locals_of self.locals.now) c.args.index c.in-Some.t.now c.in-Some.ensures.lookup.3.0 c.in-Some.ensures.lookup.1
