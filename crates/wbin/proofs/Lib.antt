@@ -6,4 +6,3 @@ pub mod Sections
 pub mod Modules
 pub mod Places
 pub mod Indices
-pub mod Mapped

@@ -1,5 +1,5 @@
 -- Sections in their order.
-use Rattle.std.proofs.Common.{◌≡◌, ◌≢◌, ℕ, max, ◌<◌, ◌≤◌, inl, inr, List, [], ◌∷◌, ◌++◌, map, length, drop, Some, None, Ok, Err, refl, ap, sym, subst, ◌∙◌, arith, length-drop, append_assoc}
+use Rattle.std.proofs.Common.{◌≡◌, ◌≢◌, ℕ, ◌+◌, max, ◌<◌, ◌≤◌, ◌⊎◌, inl, inr, List, [], ◌∷◌, ◌++◌, map, length, take, drop, Some, None, Ok, Err, refl, ap, sym, subst, ◌∙◌, arith, length-drop, append_assoc}
 use Rattle.std.specs.List.{All}
 use Rattle.std.proofs.lemmas.List.Elements.{All-nil, All-push}
 use Rattle.std.proofs.lemmas.List.{append-nil}
@@ -128,3 +128,25 @@ no_custom_name bytes more above id contents inside after e h f z none s rest k m
 pub no_contents : (bytes more : List ℕ) (id : ℕ) → bytes ≡ id ∷ more → Nothing SpellsBytes more → (s : Section) (rest : List ℕ) → SpellsSection bytes s rest → ⊥
 no_contents bytes more id e none s rest k =
     let p = byte_once s.id id bytes k.0 more k.1 e in none s.contents rest (subst (λ b. SpellsBytes b s.contents rest) p.1 k.2)
+
+-- what stands there is a section, where its number can follow and a custom one has a name
+pub stretch_found : (bytes : List ℕ) (at above id start end : ℕ) (contents : List ℕ) → drop at bytes ≡ id ∷ drop (at + 1) bytes → at < end → start ≤ end → end ≤ length bytes
+    → SpellsBytes (drop (at + 1) bytes) contents (drop end bytes) → contents ≡ drop start (take end bytes) → (id ≡ 0 ⊎ ((above < id) × (id ≤ 11)))
+    → (id ≡ 0 → (name rest : List ℕ) × SpellsName (drop start (take end bytes)) name rest) → ReadsStretch bytes at above (Ok (record { id = id; at = at; start = start; end = end }))
+unfolding ReadsStretch
+stretch_found bytes at above id start end contents first past low within spelled same may named = (
+  past,
+  (low, within),
+  (drop (at + 1) bytes, first, subst (λ c. SpellsBytes (drop (at + 1) bytes) c (drop end bytes)) same spelled),
+  elim may [ inl z ↦ inl (z, named z) | inr r ↦ inr r ],
+)
+
+-- and none where its number can't follow
+pub not_following : (bytes : List ℕ) (at above id : ℕ) (e : BinFault) → e ≢ NoMemory → drop at bytes ≡ id ∷ drop (at + 1) bytes → ((id ≡ 0 ⊎ ((above < id) × (id ≤ 11))) → ⊥) → ReadsStretch bytes at above (Err e)
+unfolding ReadsStretch
+not_following bytes at above id e known first never = (
+  known,
+  λ s rest k may. (
+      let p = byte_once s.id id (drop at bytes) k.0 (drop (at + 1) bytes) k.1 first in
+      never (elim may [ inl c ↦ inl (sym p.0 ∙ c.0) | inr r ↦ inr (subst (λ n. (above < n) × (n ≤ 11)) p.0 r) ])),
+)

@@ -1,5 +1,5 @@
 -- Bytes with their number before them.
-use Rattle.std.proofs.Common.{◌≡◌, ℕ, ◌+◌, ◌-◌, ◌<◌, ◌≤◌, List, ◌++◌, length, take, drop, pos, Result, Ok, Err, is_ok, false, MatchResult, ap, sym, subst, ◌∙◌, arith, length-append, length-drop}
+use Rattle.std.proofs.Common.{◌≡◌, ℕ, ◌+◌, ◌-◌, ◌<◌, ◌≤◌, List, ◌++◌, length, take, drop, pos, Result, Ok, Err, is_ok, true, false, MatchResult, ap, sym, subst, ◌∙◌, arith, length-append, length-drop}
 use Rattle.std.proofs.lemmas.List.{take-append-drop, drop-drop, drop-take, length-take-le}
 use Rattle.leb.specs.Number.{unsigned}
 use Rattle.leb.proofs.Grammar.{spelling_shorter}
@@ -57,3 +57,7 @@ name_none bytes name rest h none other more k =
 pub not_utf8 : {T E : Type 0} (P : T → Type 0) (Q : E → Type 0) (name : List ℕ) (r : Result T E) → is_ok r ≡ false → MatchResult r P (λ e. ¬ (IsUtf8 name) × Q e) → IsUtf8 name → ⊥
 not_utf8 P Q name (Ok x) e h = cc e
 not_utf8 P Q name (Err x) e h = h.0
+
+pub is_utf8 : {T E : Type 0} (P : T → Type 0) (Q : E → Type 0) (name : List ℕ) (r : Result T E) → is_ok r ≡ true → MatchResult r (λ s. P s × IsUtf8 name) Q → IsUtf8 name
+is_utf8 P Q name (Ok x) e h = h.1
+is_utf8 P Q name (Err x) e h = absurd (cc e)

@@ -30,9 +30,10 @@ impl Part for FunctionCode {
 
     fn read(alloc: Global, bytes: &[u8], at: usize) -> Result<(FunctionCode, usize), BinFault> {
         let (contents, end) = read_sized(bytes, at)?;
-        let read = read_code(alloc, &bytes[..end], end - contents.len());
-        let code = read.map_err(|fault| fenced_body(fault, at))?;
-        Ok((code, end))
+        match read_code(alloc, &bytes[..end], end - contents.len()) {
+            Ok(code) => Ok((code, end)),
+            Err(fault) => Err(fenced_body(fault, at)),
+        }
     }
 
     ghost once = { code_once };

@@ -178,10 +178,13 @@ fn read_filling<P: Part>(alloc: Global, bytes: &[u8], section: Stretch) -> Resul
         result }
     ensures placed { IfOk result (P.placed bytes.now) }
 {
-    let read = P::read(alloc, &bytes[..section.end], section.start);
-    let (found, end) = read.map_err(|fault| fenced(fault, bytes, section.at))?;
-    if end != section.end {
-        return Err(malformed(Kind::BadSection, section.at));
+    match P::read(alloc, &bytes[..section.end], section.start) {
+        Ok((found, end)) => {
+            if end != section.end {
+                return Err(malformed(Kind::BadSection, section.at));
+            }
+            Ok(found)
+        }
+        Err(fault) => Err(fenced(fault, bytes, section.at)),
     }
-    Ok(found)
 }

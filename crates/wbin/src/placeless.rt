@@ -98,10 +98,11 @@ pub fn read_index(bytes: &[u8], at: usize) -> Result<(u32, usize), BinFault>
     ensures read { Reads SpellsIndex (λ n. n) bytes.now at result }
     ensures memory { IfErr result (λ e. e ≢ NoMemory) }
 {
-    read_u32(bytes, at).map_err(|fault| match fault {
-        LebFault::Truncated => truncated(bytes),
-        _ => malformed(Kind::BadNumber, at),
-    })
+    match read_u32(bytes, at) {
+        Ok(found) => Ok(found),
+        Err(LebFault::Truncated) => Err(truncated(bytes)),
+        Err(_) => Err(malformed(Kind::BadNumber, at)),
+    }
 }
 
 /// The byte at `at`.
@@ -155,13 +156,16 @@ pub fn read_bytes(bytes: &[u8], at: usize) -> Result<(&[u8], usize), BinFault>
     ensures place { IfOk result (λ x. (length x.0.now ≤ x.1) × (at + length x.0.now < x.1) ×
         (x.0.now ≡ drop (x.1 - length x.0.now) (take x.1 bytes.now))) }
 {
-    read_sized(bytes, at).map_err(|fault| match fault {
-        BinFault::Malformed {
-            kind: Kind::Truncated,
-            ..
-        } => truncated(bytes),
-        other => other,
-    })
+    match read_sized(bytes, at) {
+        Ok(found) => Ok(found),
+        Err(
+            BinFault::Malformed {
+                kind: Kind::Truncated,
+                ..
+            },
+        ) => Err(truncated(bytes)),
+        Err(other) => Err(other),
+    }
 }
 
 /// Reads a name from `at` on, and gives it and the place after it.
@@ -170,11 +174,15 @@ pub fn read_name(bytes: &[u8], at: usize) -> Result<(&[u8], usize), BinFault>
     ensures read { Reads SpellsName (λ s. s.now) bytes.now at result }
     ensures memory { IfErr result (λ e. e ≢ NoMemory) }
 {
-    let (name, next) = read_bytes(bytes, at)?;
-    if str::from_utf8(name).is_ok() {
-        Ok((name, next))
-    } else {
-        Err(malformed(Kind::BadName, at))
+    match read_bytes(bytes, at) {
+        Ok((name, next)) => {
+            if str::from_utf8(name).is_ok() {
+                Ok((name, next))
+            } else {
+                Err(malformed(Kind::BadName, at))
+            }
+        }
+        Err(fault) => Err(fault),
     }
 }
 

@@ -103,8 +103,10 @@ fn read_stretch(bytes: &[u8], at: usize, above: u8) -> Result<Stretch, BinFault>
     }
     let (contents, end) = read_bytes(bytes, at + 1)?;
     let start = end - contents.len();
-    check_name(&bytes[..end], start, id).map_err(|fault| fenced(fault, bytes, at))?;
-    Ok(Stretch { id, at, start, end })
+    match check_name(&bytes[..end], start, id) {
+        Ok(()) => Ok(Stretch { id, at, start, end }),
+        Err(fault) => Err(fenced(fault, bytes, at)),
+    }
 }
 
 // Whether a section of this number can come next, where the greatest number before it is `above`.
@@ -125,8 +127,10 @@ fn check_name(bytes: &[u8], at: usize, id: u8) -> Result<(), BinFault>
     if id != 0 {
         return Ok(());
     }
-    read_name(bytes, at)?;
-    Ok(())
+    match read_name(bytes, at) {
+        Ok(_) => Ok(()),
+        Err(fault) => Err(fault),
+    }
 }
 
 /// A fault in a section at `at`. Bytes that are wanted beyond its size are its fault, but for those

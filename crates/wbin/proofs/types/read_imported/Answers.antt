@@ -27,3 +27,31 @@ returns-in_err-global c =
     let p = err_from_is_err_and c.from_residual-in_err-global.result c.from_residual-in_err-global.ensures.1 in
     rw (p.1, p.2)
     (λ m. global_missing (drop c.args.at c.args.bytes.now) rest (subst (λ b. drop c.args.at c.args.bytes.now ≡ b ∷ rest) c.if-byte-eq3.true c.requires.byte) (c.in_err-global.ensures m))
+
+pub returns-in_ok-signature : goal.returns-in_ok-signature
+unfolding Reads
+returns-in_ok-signature c =
+    let rest = drop (c.args.at + 1) c.args.bytes.now in
+    let e = c.in_ok-signature.ensures.read in
+    (e.0, (rest, subst (λ b. drop c.args.at c.args.bytes.now ≡ b ∷ rest) c.if-byte-eq0.true c.requires.byte, e.1))
+
+pub returns-in_ok-limits : goal.returns-in_ok-limits
+unfolding Reads
+returns-in_ok-limits c =
+    let rest = drop (c.args.at + 1) c.args.bytes.now in
+    let e = c.in_ok-limits.ensures in
+    (e.0, (rest, subst (λ b. drop c.args.at c.args.bytes.now ≡ b ∷ rest) c.if-byte-eq1.true c.requires.byte, e.1))
+
+pub returns-in_ok-limits-2 : goal.returns-in_ok-limits-2
+unfolding Reads
+returns-in_ok-limits-2 c =
+    let rest = drop (c.args.at + 1) c.args.bytes.now in
+    let e = c.in_ok-limits-2.ensures in
+    (e.0, (rest, subst (λ b. drop c.args.at c.args.bytes.now ≡ b ∷ rest) c.if-byte-eq2.true c.requires.byte, e.1))
+
+pub returns-in_ok-global : goal.returns-in_ok-global
+unfolding Reads
+returns-in_ok-global c =
+    let rest = drop (c.args.at + 1) c.args.bytes.now in
+    let e = c.in_ok-global.ensures in
+    (e.0, (rest, subst (λ b. drop c.args.at c.args.bytes.now ≡ b ∷ rest) c.if-byte-eq3.true c.requires.byte, e.1))
