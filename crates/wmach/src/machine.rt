@@ -84,12 +84,25 @@ impl Machine {
         ensures { IfOk result (λ m. m ≡ first_machine (arc_value checked).content) }
     {
         is_checked(&checked);
-        let shapes = shapes_of(alloc, checked.module())?;
-        let records = records_of(alloc, checked.module())?;
+        let Ok(shapes) = shapes_of(alloc, checked.module()) else {
+            return Err(AllocError);
+        };
+        let Ok(records) = records_of(alloc, checked.module()) else {
+            return Err(AllocError);
+        };
         let widest = widest_frame(shapes.as_slice(), checked.notes());
-        let slots = vec![in alloc; 0; MOST_FRAMES * widest]?;
-        let waiting = Vec::with_capacity(alloc, MOST_FRAMES)?;
-        let store = Store::new(alloc, checked.clone()?)?;
+        let Ok(slots) = vec![in alloc; 0; MOST_FRAMES * widest] else {
+            return Err(AllocError);
+        };
+        let Ok(waiting) = Vec::with_capacity(alloc, MOST_FRAMES) else {
+            return Err(AllocError);
+        };
+        let Ok(shared) = checked.clone() else {
+            return Err(AllocError);
+        };
+        let Ok(store) = Store::new(alloc, shared) else {
+            return Err(AllocError);
+        };
         Ok(Machine {
             checked,
             store,

@@ -24,13 +24,17 @@ pub fn records_of(alloc: Global, decoded: &Module) -> Result<Vec<usize>, AllocEr
     ensures { IfOk result (λ records. RecordsAgree (imported_names (module_of decoded.now).imports) records.items) }
 {
     let count = decoded.tables().imports.len();
-    let mut records = Vec::with_capacity(alloc, count)?;
+    let Ok(mut records) = Vec::with_capacity(alloc, count) else {
+        return Err(AllocError);
+    };
     for place in 0..count {
         let import = import_at(decoded, place);
         let Some(record) = host_number(import.module.as_slice(), import.name.as_slice()) else {
             unreachable!();
         };
-        records.push(record)?;
+        let Ok(()) = records.push(record) else {
+            return Err(AllocError);
+        };
     }
     Ok(records)
 }

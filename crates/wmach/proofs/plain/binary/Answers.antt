@@ -1,7 +1,7 @@
-use Rattle.std.proofs.Common.{◌-◌, ◌^◌, ◌<◌, [], ◌∷◌, take, drop, refl, sym, ◌∙◌, subst, arith}
+use Rattle.std.proofs.Common.{◌-◌, ◌^◌, ◌<◌, [], ◌∷◌, length, take, drop, refl, sym, ◌∙◌, subst, arith}
 use Rattle.std.proofs.lemmas.Result.{err_from_is_err_and}
 use Rattle.wcode.specs.declared.instruction.Plain.TheVariants as plains
-use Rattle.wmach.proofs.Arms.{pushed, spent_err, two_back, two_there}
+use Rattle.wmach.proofs.Arms.{pushed, second_below, spent_err, two_back, two_is, two_some, two_there}
 use Rattle.wmach.proofs.OverNumbers.{binary_here, binary_spent, over_binary, over_binary_trap, two_top}
 use Rattle.wmach.proofs.Stepping.{cut_off}
 use Rattle.wmach.specs.Numeric.{trap_where}
@@ -54,3 +54,18 @@ returns-in-Err c w st r h q =
     let popped = two_back s.top slots c.topmost-first.result c.topmost-second.result c.topmost-second.ensures c.topmost-first.ensures in
     let t = over_binary_trap r.setting (bytes_of r) r.checked r.start h.spent (activation_of s) w (take s.top slots) st.current h.on c.args.t c.args.op (drop c.args.next (bytes_of r)) (take (s.top - 2) slots) c.topmost-first.result c.topmost-second.result c.in-Err.undefined q.spelled popped (sym c.binary_word.ensures.gives ∙ c.in-Err.is) in
     subst (λ y. Rattle.wmach.specs.inside.Running.Stopped r (Rattle.wmach.specs.declared.state.Stop.TheVariants.Trap y c.in_ok-left.left) slots st) (sym c.trap_where.ensures) (cut_off r s w slots st h (trap_where c.in-Err.undefined) c.in_ok-left.left c.in_ok-left.ensures.some t)
+
+pub push-top-requires : goal.push-top-requires
+push-top-requires c =
+    let w = c.requires.0 in let st = c.requires.1 in let q = c.requires.2 in let r = q.run in let h = q.at in let s = c.args.state in let slots = c.args.slots.now in
+    let o = binary_here r.setting (bytes_of r) r.checked r.start h.spent (activation_of s) w (take s.top slots) st.current h.on c.args.t c.args.op (drop c.args.next (bytes_of r)) q.reads.spelled in second_below s.top (length slots) (two_there r s w slots st h (value_of c.args.t o.second) (value_of c.args.t o.first) o.others o.values_are) h.top
+
+pub overflow_sub-state : goal.overflow_sub-state
+overflow_sub-state c =
+    let w = c.requires.0 in let st = c.requires.1 in let q = c.requires.2 in let r = q.run in let h = q.at in let s = c.args.state in let slots = c.args.slots.now in
+    let o = binary_here r.setting (bytes_of r) r.checked r.start h.spent (activation_of s) w (take s.top slots) st.current h.on c.args.t c.args.op (drop c.args.next (bytes_of r)) q.reads.spelled in two_some s.top (two_there r s w slots st h (value_of c.args.t o.second) (value_of c.args.t o.first) o.others o.values_are)
+
+pub overflow_sub-state-in-Ok : goal.overflow_sub-state-in-Ok
+overflow_sub-state-in-Ok c =
+    let w = c.requires.0 in let st = c.requires.1 in let q = c.requires.2 in let r = q.run in let h = q.at in let s = c.args.state in let slots = c.args.slots.now in
+    let o = binary_here r.setting (bytes_of r) r.checked r.start h.spent (activation_of s) w (take s.top slots) st.current h.on c.args.t c.args.op (drop c.args.next (bytes_of r)) q.reads.spelled in two_is s.top (two_there r s w slots st h (value_of c.args.t o.second) (value_of c.args.t o.first) o.others o.values_are)

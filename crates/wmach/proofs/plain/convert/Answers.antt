@@ -1,7 +1,7 @@
-use Rattle.std.proofs.Common.{◌-◌, ◌^◌, ◌<◌, [], ◌∷◌, take, drop, refl, sym, subst, arith}
+use Rattle.std.proofs.Common.{◌-◌, ◌^◌, ◌<◌, [], ◌∷◌, length, take, drop, refl, sym, subst, arith}
 use Rattle.std.proofs.lemmas.Result.{err_from_is_err_and}
 use Rattle.wcode.specs.declared.instruction.Plain.TheVariants as plains
-use Rattle.wmach.proofs.Arms.{one_there, pushed, spent_err}
+use Rattle.wmach.proofs.Arms.{one_there, pushed, some_is, spent_err, top_below}
 use Rattle.wmach.proofs.OverNumbers.{convert_here, convert_spent, one_top, over_convert}
 use Rattle.wmach.specs.Numeric.{converted_from, converted_to}
 use Rattle.wmach.specs.Operands.{value_of, width_of}
@@ -32,3 +32,13 @@ returns c w st r h q =
     let o = convert_here r.setting (bytes_of r) r.checked r.start h.spent (activation_of s) w (take s.top slots) st.current h.on c.args.op (drop c.args.next (bytes_of r)) q.spelled in let some = one_there r s w slots st h (value_of (converted_from c.args.op) o.number) o.others o.values_are in
     let on = over_convert r.setting (bytes_of r) r.checked r.start h.spent (activation_of s) w (take s.top slots) st.current h.on c.args.op c.args.next c.convert_word.result (take (s.top - 1) slots) c.topmost-number.result q.within q.spelled c.topmost-number.ensures c.convert_word.ensures.gives c.convert_word.ensures.fits in
     pushed r s w slots st h c.args.next s.cursor c.push-top.result c.in_ok-left.left 1 c.convert_word.result (take (s.top - 1) slots) c.push-top.new.slots st (omega arith) c.in_ok-left.ensures.some on c.push-top.ensures.slots (omega (arith, c.push-top.ensures.top, c.push-top.ensures.long, some, h.top)) c.push-top.ensures.long refl refl
+
+pub push-top-requires : goal.push-top-requires
+push-top-requires c =
+    let w = c.requires.0 in let st = c.requires.1 in let q = c.requires.2 in let r = q.run in let h = q.at in let s = c.args.state in let slots = c.args.slots.now in
+    let o = convert_here r.setting (bytes_of r) r.checked r.start h.spent (activation_of s) w (take s.top slots) st.current h.on c.args.op (drop c.args.next (bytes_of r)) q.reads.spelled in top_below s.top (length slots) (one_there r s w slots st h (value_of (converted_from c.args.op) o.number) o.others o.values_are) h.top
+
+pub overflow_sub-state : goal.overflow_sub-state
+overflow_sub-state c =
+    let w = c.requires.0 in let st = c.requires.1 in let q = c.requires.2 in let r = q.run in let h = q.at in let s = c.args.state in let slots = c.args.slots.now in
+    let o = convert_here r.setting (bytes_of r) r.checked r.start h.spent (activation_of s) w (take s.top slots) st.current h.on c.args.op (drop c.args.next (bytes_of r)) q.reads.spelled in some_is s.top (one_there r s w slots st h (value_of (converted_from c.args.op) o.number) o.others o.values_are)

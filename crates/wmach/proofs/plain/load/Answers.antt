@@ -1,9 +1,9 @@
-use Rattle.std.proofs.Common.{◌+◌, ◌-◌, ◌^◌, ◌<◌, [], ◌∷◌, Ok, Err, take, drop, refl, sym, subst, arith}
+use Rattle.std.proofs.Common.{◌+◌, ◌-◌, ◌^◌, ◌<◌, [], ◌∷◌, Ok, Err, length, take, drop, refl, sym, subst, arith}
 use Rattle.std.proofs.lemmas.Result.{err_from_is_err_and}
 use Rattle.wcode.specs.Operators.{load_type}
 use Rattle.wcode.specs.declared.instruction.Plain.TheVariants as plains
 use Rattle.wcode.specs.declared.value.ValueType.TheVariants.{I32}
-use Rattle.wmach.proofs.Arms.{one_there, pushed, spent_err}
+use Rattle.wmach.proofs.Arms.{one_there, pushed, some_is, spent_err, top_below}
 use Rattle.wmach.proofs.OverMemory.{load_here, load_spent, over_load, over_load_trap}
 use Rattle.wmach.proofs.OverNumbers.{one_top}
 use Rattle.wmach.proofs.Stepping.{cut_off}
@@ -48,3 +48,13 @@ returns-in-Err c w r h q =
     let failed = subst (λ y. LoadGives y st.current.memory (c.topmost-base.result + c.args.arg.offset) (Err c.in-Err.field-0)) c.load_of.ensures gives in
     let t = over_load_trap r.setting (bytes_of r) r.checked r.start h.spent (activation_of s) w (take s.top slots) st.current h.on c.args.op c.args.arg (drop c.args.next (bytes_of r)) (take (s.top - 1) slots) c.topmost-base.result q.spelled c.topmost-base.ensures failed.0 in
     cut_off r s w slots st h MemoryOutOfBounds c.in_ok-left.left c.in_ok-left.ensures.some t
+
+pub push-top-requires : goal.push-top-requires
+push-top-requires c =
+    let w = c.requires.0 in let st = c.args.store.now in let q = c.requires.1 in let r = q.run in let h = q.at in let s = c.args.state in let slots = c.args.slots.now in
+    let o = load_here r.setting (bytes_of r) r.checked r.start h.spent (activation_of s) w (take s.top slots) st.current h.on c.args.op c.args.arg (drop c.args.next (bytes_of r)) q.reads.spelled in top_below s.top (length slots) (one_there r s w slots st h (value_of I32 o.number) o.others o.values_are) h.top
+
+pub overflow_sub-state : goal.overflow_sub-state
+overflow_sub-state c =
+    let w = c.requires.0 in let st = c.args.store.now in let q = c.requires.1 in let r = q.run in let h = q.at in let s = c.args.state in let slots = c.args.slots.now in
+    let o = load_here r.setting (bytes_of r) r.checked r.start h.spent (activation_of s) w (take s.top slots) st.current h.on c.args.op c.args.arg (drop c.args.next (bytes_of r)) q.reads.spelled in some_is s.top (one_there r s w slots st h (value_of I32 o.number) o.others o.values_are)

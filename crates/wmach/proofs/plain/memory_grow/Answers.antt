@@ -1,8 +1,8 @@
-use Rattle.std.proofs.Common.{◌+◌, ◌-◌, ◌^◌, ◌<◌, ◌≤◌, [], ◌∷◌, ◌++◌, take, drop, sym, ap, subst, arith}
+use Rattle.std.proofs.Common.{◌+◌, ◌-◌, ◌^◌, ◌<◌, ◌≤◌, [], ◌∷◌, ◌++◌, length, take, drop, sym, ap, subst, arith}
 use Rattle.std.proofs.lemmas.Result.{err_from_is_err_and}
 use Rattle.wcode.specs.declared.instruction.Plain.TheVariants as plains
 use Rattle.wcode.specs.declared.value.ValueType.TheVariants.{I32}
-use Rattle.wmach.proofs.Arms.{one_there, pushed, same_module, spent_err}
+use Rattle.wmach.proofs.Arms.{one_there, pushed, same_module, some_is, spent_err, top_below}
 use Rattle.wmach.proofs.MachineSteps.{went}
 use Rattle.wmach.proofs.OverMemory.{grow_here, grow_spent, over_grow, over_grow_fails}
 use Rattle.wmach.proofs.OverNumbers.{one_top}
@@ -51,3 +51,23 @@ returns-in-None c w r h q =
     let on = over_grow_fails r.setting (bytes_of r) r.checked r.start h.spent (activation_of s) w (take s.top slots) st.current h.on c.args.next (take (s.top - 1) slots) c.topmost-delta.result q.within q.spelled c.topmost-delta.ensures (subst (λ x. cap_of x.memories < pages_in st.current.memory + c.topmost-delta.result) m grew.0) in
     let current = ap (λ (x : StoreState). x.current) grew.1 in let checked = ap (λ (x : StoreState). x.checked) grew.1 in let image = ap (λ (x : StoreState). x.image) grew.1 in
     pushed r s w slots st h c.args.next s.cursor c.push-top-in-None.result c.in_ok-left.left 1 4294967295 (take (s.top - 1) slots) c.push-top-in-None.new.slots new (omega arith) c.in_ok-left.ensures.some (subst (λ x. On r.setting (bytes_of r) r.checked r.start (h.spent + 1) (went (activation_of s) c.args.next s.cursor) w (take (s.top - 1) slots ++ 4294967295 ∷ []) x) (sym current) on) c.push-top-in-None.ensures.slots (omega (arith, c.push-top-in-None.ensures.top, c.push-top-in-None.ensures.long, some, h.top)) c.push-top-in-None.ensures.long checked image
+
+pub push-top-requires : goal.push-top-requires
+push-top-requires c =
+    let w = c.requires.0 in let st = c.args.store.now in let q = c.requires.1 in let r = q.run in let h = q.at in let s = c.args.state in let slots = c.args.slots.now in
+    let o = grow_here r.setting (bytes_of r) r.checked r.start h.spent (activation_of s) w (take s.top slots) st.current h.on (drop c.args.next (bytes_of r)) q.reads.spelled in top_below s.top (length slots) (one_there r s w slots st h (value_of I32 o.number) o.others o.values_are) h.top
+
+pub push-top-requires-in-None : goal.push-top-requires-in-None
+push-top-requires-in-None c =
+    let w = c.requires.0 in let st = c.args.store.now in let q = c.requires.1 in let r = q.run in let h = q.at in let s = c.args.state in let slots = c.args.slots.now in
+    let o = grow_here r.setting (bytes_of r) r.checked r.start h.spent (activation_of s) w (take s.top slots) st.current h.on (drop c.args.next (bytes_of r)) q.reads.spelled in top_below s.top (length slots) (one_there r s w slots st h (value_of I32 o.number) o.others o.values_are) h.top
+
+pub overflow_sub-state : goal.overflow_sub-state
+overflow_sub-state c =
+    let w = c.requires.0 in let st = c.args.store.now in let q = c.requires.1 in let r = q.run in let h = q.at in let s = c.args.state in let slots = c.args.slots.now in
+    let o = grow_here r.setting (bytes_of r) r.checked r.start h.spent (activation_of s) w (take s.top slots) st.current h.on (drop c.args.next (bytes_of r)) q.reads.spelled in some_is s.top (one_there r s w slots st h (value_of I32 o.number) o.others o.values_are)
+
+pub overflow_sub-state-in-None : goal.overflow_sub-state-in-None
+overflow_sub-state-in-None c =
+    let w = c.requires.0 in let st = c.args.store.now in let q = c.requires.1 in let r = q.run in let h = q.at in let s = c.args.state in let slots = c.args.slots.now in
+    let o = grow_here r.setting (bytes_of r) r.checked r.start h.spent (activation_of s) w (take s.top slots) st.current h.on (drop c.args.next (bytes_of r)) q.reads.spelled in some_is s.top (one_there r s w slots st h (value_of I32 o.number) o.others o.values_are)

@@ -1,8 +1,8 @@
-use Rattle.std.proofs.Common.{◌-◌, ◌^◌, ◌<◌, [], ◌∷◌, take, drop, refl, sym, subst, arith}
+use Rattle.std.proofs.Common.{◌-◌, ◌^◌, ◌<◌, [], ◌∷◌, length, take, drop, refl, sym, subst, arith}
 use Rattle.std.proofs.lemmas.Result.{err_from_is_err_and}
 use Rattle.wcode.specs.declared.instruction.Plain.TheVariants as plains
 use Rattle.wcode.specs.declared.value.ValueType.TheVariants.{I32}
-use Rattle.wmach.proofs.Arms.{pushed, spent_err, two_back, two_there}
+use Rattle.wmach.proofs.Arms.{pushed, second_below, spent_err, two_back, two_some, two_there}
 use Rattle.wmach.proofs.OverNumbers.{over_relation, relation_here, relation_spent, two_top}
 use Rattle.wmach.specs.Operands.{value_of, width_of}
 use Rattle.wmach.specs.inside.Running.{activation_of, bytes_of}
@@ -45,3 +45,13 @@ returns c w st r h q =
     let popped = two_back s.top slots c.topmost-first.result c.topmost-second.result c.topmost-second.ensures c.topmost-first.ensures in
     let on = over_relation r.setting (bytes_of r) r.checked r.start h.spent (activation_of s) w (take s.top slots) st.current h.on c.args.t c.args.op c.args.next c.relation_word.result (take (s.top - 2) slots) c.topmost-first.result c.topmost-second.result q.within q.spelled popped c.relation_word.ensures.gives c.relation_word.ensures.fits in
     pushed r s w slots st h c.args.next s.cursor c.push-top.result c.in_ok-left.left 1 c.relation_word.result (take (s.top - 2) slots) c.push-top.new.slots st (omega arith) c.in_ok-left.ensures.some on c.push-top.ensures.slots (omega (arith, c.push-top.ensures.top, c.push-top.ensures.long, some, h.top)) c.push-top.ensures.long refl refl
+
+pub push-top-requires : goal.push-top-requires
+push-top-requires c =
+    let w = c.requires.0 in let st = c.requires.1 in let q = c.requires.2 in let r = q.run in let h = q.at in let s = c.args.state in let slots = c.args.slots.now in
+    let o = relation_here r.setting (bytes_of r) r.checked r.start h.spent (activation_of s) w (take s.top slots) st.current h.on c.args.t c.args.op (drop c.args.next (bytes_of r)) q.reads.spelled in second_below s.top (length slots) (two_there r s w slots st h (value_of c.args.t o.second) (value_of c.args.t o.first) o.others o.values_are) h.top
+
+pub overflow_sub-state : goal.overflow_sub-state
+overflow_sub-state c =
+    let w = c.requires.0 in let st = c.requires.1 in let q = c.requires.2 in let r = q.run in let h = q.at in let s = c.args.state in let slots = c.args.slots.now in
+    let o = relation_here r.setting (bytes_of r) r.checked r.start h.spent (activation_of s) w (take s.top slots) st.current h.on c.args.t c.args.op (drop c.args.next (bytes_of r)) q.reads.spelled in two_some s.top (two_there r s w slots st h (value_of c.args.t o.second) (value_of c.args.t o.first) o.others o.values_are)
