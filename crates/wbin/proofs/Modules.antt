@@ -174,6 +174,6 @@ not_read Is bytes sections fault r e y failed same none has =
     subst (AssemblesTo bytes sections fault) (sym (failed ∙ ap (λ (x : BinFault). Err x) same)) (λ other sound m a. none other (has m a).0 (has m a).1)
 
 -- nor where there is a fault
-pub faulty : (bytes : List ℕ) (sections : List Section) (fault : Option BinFault) (r : Result Tables BinFault) (e y : BinFault) → r ≡ Err y → fault ≡ Some e → AssemblesTo bytes sections fault r
+pub faulty : (bytes : List ℕ) (sections : List Section) (fault : Option BinFault) (e : BinFault) → fault ≡ Some e → AssemblesTo bytes sections fault (Err e)
 unfolding AssemblesTo
-faulty bytes sections fault r e y failed there = subst (AssemblesTo bytes sections fault) (sym failed) (λ other sound m a. absurd (cc))
+faulty bytes sections fault e there = λ other sound m a. absurd (cc)

@@ -101,7 +101,10 @@ fn assemble(
     let element_segments = read_list::<ElementSegment>(alloc, bytes, sections, SectionId::Element)?;
     let codes = read_list::<FunctionCode>(alloc, bytes, sections, SectionId::Code)?;
     let data_segments = read_list::<DataSegment>(alloc, bytes, sections, SectionId::Data)?;
-    no_fault(fault)?;
+    match fault {
+        Some(fault) => return Err(fault),
+        None => {}
+    }
     if signatures.len() != codes.len() {
         return Err(malformed(Kind::CountMismatch, bytes.len()));
     }
@@ -118,17 +121,6 @@ fn assemble(
         codes,
         data_segments,
     })
-}
-
-// That there is no fault.
-fn no_fault(fault: Option<BinFault>) -> Result<(), BinFault>
-    ensures none { IfOk result (λ u. fault ≡ None) }
-    ensures some { IfErr result (λ e. fault ≡ Some e) }
-{
-    match fault {
-        Some(fault) => Err(fault),
-        None => Ok(()),
-    }
 }
 
 // What the section of this number lists; nothing where there is none.

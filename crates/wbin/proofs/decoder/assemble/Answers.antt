@@ -87,10 +87,8 @@ returns-in_err-data_segments c =
     let p = err_from_is_err_and c.from_residual-in_err-data_segments.result c.from_residual-in_err-data_segments.ensures.1 in
     not_read (Lists SpellsData (contents_of 11 sections)) c.args.bytes.now sections c.args.fault c.from_residual-in_err-data_segments.result c.in_err-data_segments.field-0.0 p.0 p.1 p.2 c.in_err-data_segments.ensures.read (λ m a. (m.data_segments, a.data_segments))
 
-pub returns-in_err-no_fault : goal.returns-in_err-no_fault
-returns-in_err-no_fault c =
-    let p = err_from_is_err_and c.from_residual-in_err-no_fault.result c.from_residual-in_err-no_fault.ensures.1 in
-    faulty c.args.bytes.now (map (section_of c.args.bytes.now) c.args.sections.now) c.args.fault c.from_residual-in_err-no_fault.result c.in_err-no_fault.field-0.0 p.0 p.1 c.in_err-no_fault.ensures.some
+pub returns-in-Some : goal.returns-in-Some
+returns-in-Some c = faulty c.args.bytes.now (map (section_of c.args.bytes.now) c.args.sections.now) c.args.fault c.in-Some.fault c.in-Some.is
 
 -- ---- what is read
 
@@ -110,7 +108,7 @@ returns c =
     let s = c.in_ok-signatures.signatures in
     let b = c.in_ok-codes.codes in
     let l : length s.items ≡ length b.items = omega (arith, c.len.ensures, c.len-2.ensures, s.ok.0, b.ok.0, c.if-len.false) in (
-      c.in_ok-no_fault.ensures.none,
+      c.in-None.is,
       record {
         types = c.in_ok-types.ensures.read;
         imports = c.in_ok-imports.ensures.read;
