@@ -9,7 +9,7 @@ use Rattle.wmach.specs.declared.state.Stop.TheVariants as stop
 use Rattle.wmach.specs.inside.Running.{Stopped}
 use Rattle.wmach.specs.inside.Calling.{ElementGives, Invokes}
 use Rattle.wmach.proofs.AcceptedFunctions.{functions_right}
-use Rattle.wmach.proofs.Arms.{one_there, spent_err}
+use Rattle.wmach.proofs.Arms.{one_there, some_is, spent_err}
 use Rattle.wmach.proofs.Stepping.{cut_off}
 use Rattle.wmach.proofs.Branching.{paid_state}
 use Rattle.wmach.proofs.Invoking.{can_invoke, invokes, imports_right, found_there, indirect_next}
@@ -79,3 +79,9 @@ returns-then-is_of_type-clause-goes g c r records h q =
     let k = indirect_next r s w slots st h code coded c.args.wanted c.args.next c.topmost-place.result c.in-Ok.function q.within q.spelled c.topmost-place.ensures there f (sym checked ∙ yes) in
     invokes r s w slots st h code coded 1 c.in-Ok.function c.args.next (s.top - 1) c.in_ok-left.left k c.args.waiting.now.items c.invoke.result c.invoke.new.waiting.items c.invoke.new.slots c.invoke.new.store refl c.in_ok-left.ensures.some (omega arith) (let t = h.top in omega (arith, t))
     (subst (λ x. Invokes code x c.in-Ok.function c.args.next (paid_state r s w slots st h code coded (s.top - 1) c.in_ok-left.left) c.args.waiting.now.items slots st c.invoke.result c.invoke.new.waiting.items c.invoke.new.slots c.invoke.new.store) (sym records) c.invoke.ensures.invoked)
+
+pub overflow_sub-top : goal.overflow_sub-top
+overflow_sub-top g c =
+    let w = reverse c.args.waiting.now.items in let st = c.args.store.now in let p = c.requires.ready in let r = p.run in let h = p.at in let q = p.reads in let s = c.args.state in let slots = c.args.slots.now in
+    let i = indirect_here r.setting (bytes_of r) r.checked r.start h.spent (activation_of s) w (take s.top slots) st.current h.on c.args.wanted (drop c.args.next (bytes_of r)) q.spelled in
+    some_is s.top (one_there r s w slots st h (value_of I32 i.number) i.others i.values_are)

@@ -8,7 +8,7 @@ use Rattle.wmach.specs.inside.Running.{bytes_of, activation_of, Stopped}
 use Rattle.wmach.specs.inside.Went.{IsCall}
 use Rattle.wmach.specs.inside.Calling.{ElementGives}
 use Rattle.wmach.proofs.AcceptedFunctions.{functions_right}
-use Rattle.wmach.proofs.Arms.{one_there}
+use Rattle.wmach.proofs.Arms.{one_there, some_is}
 use Rattle.wmach.proofs.Stepping.{cut_off, no_fuel}
 use Rattle.wmach.proofs.Invoking.{can_invoke, invokes, imports_right, found_there, indirect_next}
 use Rattle.wmach.proofs.OverArms.{i32_slot}
@@ -102,3 +102,10 @@ pub returns-then-index-code-clause-goes : goal.returns-then-index-code-clause-go
 returns-then-index-code-clause-goes c r h q =
     let w = reverse c.args.waiting.now.items in let st = c.args.store.now in let s = c.args.state in let slots = c.args.slots.now in let code = c.args.code.now in
     (refl, refl, refl, subst (λ b. IsCall b s.at) (bytes_are r s w slots st h code c.requires.coded) c.requires.call)
+
+pub overflow_sub-top : goal.overflow_sub-top
+overflow_sub-top c =
+    let w = reverse c.args.waiting.now.items in let st = c.args.store.now in let coded = c.requires.coded in let s = c.args.state in let slots = c.args.slots.now in let code = c.args.code.now in
+    let p = c.requires.ready in let r = p.run in let h = p.at in let q = p.reads in
+    let i = indirect_here r.setting (bytes_of r) r.checked r.start h.spent (activation_of s) w (take s.top slots) st.current h.on c.args.wanted (drop c.args.next (bytes_of r)) q.spelled in
+    some_is s.top (one_there r s w slots st h (value_of I32 i.number) i.others i.values_are)

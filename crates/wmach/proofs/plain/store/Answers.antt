@@ -2,7 +2,7 @@ use Rattle.std.proofs.Common.{◌+◌, ◌-◌, Ok, Err, take, drop, refl, sym, 
 use Rattle.std.proofs.lemmas.Result.{err_from_is_err_and}
 use Rattle.wcode.specs.Operators.{store_type}
 use Rattle.wcode.specs.declared.value.ValueType.TheVariants.{I32}
-use Rattle.wmach.proofs.Arms.{moved, spent_err, two_back, two_there}
+use Rattle.wmach.proofs.Arms.{moved, spent_err, two_back, two_is, two_there}
 use Rattle.wmach.proofs.MachineSteps.{went}
 use Rattle.wmach.proofs.OverMemory.{over_store, over_store_trap, store_base, store_here, store_spent}
 use Rattle.wmach.proofs.Stepping.{cut_off}
@@ -57,3 +57,8 @@ returns-in-Err c w r h q =
     let stored = subst (λ y. StoreGives mem_traps.MemoryOutOfBounds st (c.topmost-base.result + c.args.arg.offset) (Rattle.wmem.specs.Bytes.bytes_of (byte_count y) c.topmost-number.result) (Err c.in-Err.field-0) c.store.new.self) c.width_of_store.ensures gives in
     let t = over_store_trap r.setting (bytes_of r) r.checked r.start h.spent (activation_of s) w (take s.top slots) st.current h.on c.args.op c.args.arg (drop c.args.next (bytes_of r)) (take (s.top - 2) slots) c.topmost-base.result c.topmost-number.result q.spelled popped stored.0 in
     subst (λ x. Rattle.wmach.specs.inside.Running.Stopped r (Rattle.wmach.specs.declared.state.Stop.TheVariants.Trap MemoryOutOfBounds c.in_ok-left.left) slots x) (sym stored.2) (cut_off r s w slots st h MemoryOutOfBounds c.in_ok-left.left c.in_ok-left.ensures.some t)
+
+pub overflow_sub-result : goal.overflow_sub-result
+overflow_sub-result c =
+    let w = c.requires.0 in let st = c.args.memory.now in let q = c.requires.1 in let r = q.run in let h = q.at in let s = c.args.state in let slots = c.args.slots.now in
+    let o = store_here r.setting (bytes_of r) r.checked r.start h.spent (activation_of s) w (take s.top slots) st.current h.on c.args.op c.args.arg (drop c.args.next (bytes_of r)) q.reads.spelled in two_is s.top (two_there r s w slots st h (value_of (store_type c.args.op) o.number) (value_of I32 o.base) o.others o.values_are)

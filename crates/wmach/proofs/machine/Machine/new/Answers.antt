@@ -3,7 +3,8 @@ use Rattle.std.specs.Arc.{arc_value}
 use Rattle.wbin.specs.Syntax.{ModuleParts, module_of}
 use Rattle.wtype.specs.Accepted.{Accepted, ImportsRight, most_slots}
 use Rattle.wtype.specs.CheckedModule.{CheckedModule}
-use Rattle.wstore.specs.State.{StoreState}
+use Rattle.wstore.specs.State.{StoreState, new_state}
+use Rattle.wmach.specs.Call.{MachineState}
 use Rattle.wmach.specs.inside.Coded.{ShapesAgree, RecordsAgree}
 use Rattle.wmach.specs.Host.{imported_names}
 use Rattle.wmach.specs.inside.Kept.{AllFrames}
@@ -44,3 +45,8 @@ shapes_of-requires c = subst (λ (p : ModuleParts). Accepted (module_of p)) (sym
 
 pub records_of-requires : goal.records_of-requires
 records_of-requires c = subst (λ (p : ModuleParts). ImportsRight (module_of p)) (sym c.module-2.ensures.value) c.module-2.ensures.accepted.imports
+
+pub returns : goal.returns
+returns c =
+    ap (λ (s : StoreState). let m : MachineState = record { content = s.checked.content; store = s.current; image = s.image } in m)
+    (c.in-Ok-new.ensures ∙ ap new_state c.in-Ok-clone.ensures.cases)
