@@ -44,7 +44,9 @@ pub fn first_words(
     requires { All (IsGlobal decoded.now.bytes) globals.now }
     ensures { IfOk result (λ words. words.items ≡ map (first_word_of decoded.now.bytes) globals.now) }
 {
-    let mut words = Vec::with_capacity(alloc, globals.len())?;
+    let Ok(mut words) = Vec::with_capacity(alloc, globals.len()) else {
+        return Err(AllocError);
+    };
     for global in globals {
         words.push_reserved(first_word(decoded, *global));
     }

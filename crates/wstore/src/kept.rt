@@ -43,7 +43,9 @@ impl<T: Copy> Kept<T> {
         ensures places { IfOk result (λ kept. kept.places ≡ places.items) }
         ensures image { IfOk result (λ kept. kept.image ≡ places.items) }
     {
-        let image = Vec::from_slice(alloc, places.as_slice())?;
+        let Ok(image) = Vec::from_slice(alloc, places.as_slice()) else {
+            return Err(AllocError);
+        };
         Ok(Kept {
             places,
             image,

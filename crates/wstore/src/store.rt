@@ -82,10 +82,21 @@ impl Store {
         let module = checked.module();
         let tables = module.tables();
         let memories = tables.memories.as_slice();
-        let table = Kept::new(alloc, empty_table(alloc, tables.tables.as_slice())?)?;
-        let words = first_words(alloc, module, tables.globals.as_slice())?;
-        let globals = Kept::new(alloc, words)?;
-        let memory = Memory::new(alloc, least(memories), cap(memories))?;
+        let Ok(empty) = empty_table(alloc, tables.tables.as_slice()) else {
+            return Err(AllocError);
+        };
+        let Ok(table) = Kept::new(alloc, empty) else {
+            return Err(AllocError);
+        };
+        let Ok(words) = first_words(alloc, module, tables.globals.as_slice()) else {
+            return Err(AllocError);
+        };
+        let Ok(globals) = Kept::new(alloc, words) else {
+            return Err(AllocError);
+        };
+        let Ok(memory) = Memory::new(alloc, least(memories), cap(memories)) else {
+            return Err(AllocError);
+        };
         Ok(Store {
             checked,
             memory,

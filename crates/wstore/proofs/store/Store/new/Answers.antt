@@ -33,7 +33,7 @@ new-requires-3-clause-within c =
 pub new-requires-3-clause-limited : goal.new-requires-3-clause-limited
 new-requires-3-clause-limited c = subst (λ (n : ℕ). n ≤ 32) (sym c.cap.ensures) (cap_limited c.as_slice-memories.result.now)
 
-made : (c : goal.In_ok-memory) → IsFirst (record { checked = c.args.checked; memory = c.in_ok-memory.memory; globals = c.in_ok-globals.globals; table = c.in_ok-table.table })
+made : (c : goal.In-Ok-new-3) → IsFirst (record { checked = c.args.checked; memory = c.in-Ok-new-3.memory; globals = c.in-Ok-new-2.globals; table = c.in-Ok-new.table })
 made c =
     let p : ModuleParts = (arc_value c.args.checked).content in
     let module_is : c.module-module.result.now ≡ p = c.module-module.ensures.value ∙ ap (λ (k : CheckedModule). k.content) c.deref.ensures in
@@ -41,21 +41,21 @@ made c =
     let memories_are : c.as_slice-memories.result.now ≡ p.tables.memories.items = c.as_slice-memories.ensures.value ∙ ap (λ (t : Tables). t.memories.items) tables_are in
     let globals_are : c.as_slice-2.result.now ≡ p.tables.globals.items = c.as_slice-2.ensures.value ∙ ap (λ (t : Tables). t.globals.items) tables_are in
     let elements_are : c.as_slice.result.now ≡ p.tables.tables.items = c.as_slice.ensures.value ∙ ap (λ (t : Tables). t.tables.items) tables_are in
-    let words_are : c.in_ok-words.words.items ≡ map (first_word_of p.bytes) p.tables.globals.items =
-    c.in_ok-words.ensures
+    let words_are : c.in-Ok-first_words.words.items ≡ map (first_word_of p.bytes) p.tables.globals.items =
+    c.in-Ok-first_words.ensures
     ∙ ap (λ (m : ModuleParts). map (first_word_of m.bytes) c.as_slice-2.result.now) module_is
     ∙ ap (map (first_word_of p.bytes)) globals_are in
-    let none : c.in_ok-empty_table.field-0.items ≡ first_table p.tables.tables.items = c.in_ok-empty_table.ensures ∙ ap first_table elements_are in
+    let none : c.in-Ok.empty.items ≡ first_table p.tables.tables.items = c.in-Ok.ensures ∙ ap first_table elements_are in
     record {
       accepted = subst (λ (k : CheckedModule). Accepted (module_of k.content)) c.deref.ensures c.module-module.ensures.accepted;
       memory =
-          c.in_ok-memory.ensures
+          c.in-Ok-new-3.ensures
           ∙ ap (λ (n : ℕ). new_memory n c.cap.result) (c.least.ensures ∙ ap least_of memories_are)
           ∙ ap (λ (n : ℕ). new_memory (least_of p.tables.memories.items) n) (c.cap.ensures ∙ ap cap_of memories_are);
-      globals = c.in_ok-globals.ensures.places ∙ words_are;
-      globals_image = c.in_ok-globals.ensures.image ∙ words_are;
-      table = c.in_ok-table.ensures.places ∙ none;
-      table_image = c.in_ok-table.ensures.image ∙ none;
+      globals = c.in-Ok-new-2.ensures.places ∙ words_are;
+      globals_image = c.in-Ok-new-2.ensures.image ∙ words_are;
+      table = c.in-Ok-new.ensures.places ∙ none;
+      table_image = c.in-Ok-new.ensures.image ∙ none;
     }
 
 pub invariant_of-result : goal.invariant_of-result
