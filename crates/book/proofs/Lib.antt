@@ -7,3 +7,4 @@ pub mod TotalLemmas
 pub mod Earliest
 pub mod FinishLemmas
 pub mod Beside
+pub mod StepLemmas

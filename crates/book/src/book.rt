@@ -70,8 +70,12 @@ impl Book {
     pub fn new(alloc: Global, keys: RandomState, limits: Limits) -> Result<Self, NoMemory>
         ensures { IfOk result (λ book. book ≡ opening limits) }
     {
-        let nodes = Nodes::new(alloc, limits.nodes)?;
-        let places = Places::new(alloc, keys, limits.placed)?;
+        let Ok(nodes) = Nodes::new(alloc, limits.nodes) else {
+            return Err(NoMemory);
+        };
+        let Ok(places) = Places::new(alloc, keys, limits.placed) else {
+            return Err(NoMemory);
+        };
         Ok(Book {
             limits,
             version: Version(0),
@@ -145,8 +149,10 @@ impl Book {
             Event::NodeSet { version, node } => self.set_node(version, node),
             Event::NodeGone { version, name } => self.remove_node(version, &name),
             Event::PodPending { version, pod } => {
-                self.await_pod(version, pod, queued, queue_full)?;
-                Ok(())
+                match self.await_pod(version, pod, queued, queue_full) {
+                    Ok(_) => Ok(()),
+                    Err(why) => Err(why),
+                }
             }
             Event::PodBound {
                 version,
@@ -185,7 +191,9 @@ impl Book {
         if self.is_old(version) {
             return Err(Refusal::Old);
         }
-        self.nodes.remove(name)?;
+        let Ok(()) = self.nodes.remove(name) else {
+            return Err(Refusal::NoNode);
+        };
         self.version = version;
         Ok(())
     }
@@ -233,7 +241,9 @@ impl Book {
             request,
             status: Status::Bound,
         };
-        self.places.put(&mut self.nodes, uid, place)?;
+        let Ok(()) = self.places.put(&mut self.nodes, uid, place) else {
+            return Err(Refusal::Full);
+        };
         self.version = version;
         Ok(())
     }
@@ -265,23 +275,24 @@ impl Book {
             Entry::Elsewhere => return Err(Refusal::NotInFlight),
             Entry::Held(request) => request,
         };
-        self.check_fit(&node, request)?;
+        if let Err(why) = self.check_fit(&node, request) {
+            return Err(why);
+        }
         if self.ticket.0 >= MAX_TICKET {
             return Err(Refusal::Full);
         }
         let ticket = Ticket(self.ticket.0 + 1);
-        self.places.put(
-            &mut self.nodes,
-            uid,
-            Place {
-                node,
-                request,
-                status: Status::Assumed {
-                    ticket,
-                    finished: None,
-                },
+        let place = Place {
+            node,
+            request,
+            status: Status::Assumed {
+                ticket,
+                finished: None,
             },
-        )?;
+        };
+        let Ok(()) = self.places.put(&mut self.nodes, uid, place) else {
+            return Err(Refusal::Full);
+        };
         self.ticket = ticket;
         Ok(ticket)
     }
@@ -323,18 +334,26 @@ impl Book {
     ) -> Result<(), Refusal>
         ensures { IsTaken self.old (steps.BindDone uid.now ticket at queued) result self.new }
     {
-        self.check_ticket(uid, ticket, queued)?;
-        self.places.finish(uid, at);
-        Ok(())
+        match self.check_ticket(uid, ticket, queued) {
+            Ok(()) => {
+                self.places.finish(uid, at);
+                Ok(())
+            }
+            Err(why) => Err(why),
+        }
     }
 
     /// An assumed place is given up.
     pub fn forget(&mut self, uid: &Name, ticket: Ticket, queued: bool) -> Result<(), Refusal>
         ensures { IsTaken self.old (steps.Forget uid.now ticket queued) result self.new }
     {
-        self.check_ticket(uid, ticket, queued)?;
-        self.places.remove(&mut self.nodes, uid);
-        Ok(())
+        match self.check_ticket(uid, ticket, queued) {
+            Ok(()) => {
+                self.places.remove(&mut self.nodes, uid);
+                Ok(())
+            }
+            Err(why) => Err(why),
+        }
     }
 
     /// Takes away the expired place with the least uid, and answers that uid: an assumed place

@@ -42,9 +42,15 @@ impl Finishes {
         ensures { IfOk result (λ f. f ≡ replicate room NEVER) }
     {
         let blocks = room / BLOCK + 1;
-        let each = Vec::from_elem(alloc, NEVER, room)?;
-        let earliest = Vec::from_elem(alloc, NEVER, blocks)?;
-        let first = Vec::from_elem(alloc, NEVER, blocks / BLOCK + 1)?;
+        let Ok(each) = Vec::from_elem(alloc, NEVER, room) else {
+            return Err(AllocError);
+        };
+        let Ok(earliest) = Vec::from_elem(alloc, NEVER, blocks) else {
+            return Err(AllocError);
+        };
+        let Ok(first) = Vec::from_elem(alloc, NEVER, blocks / BLOCK + 1) else {
+            return Err(AllocError);
+        };
         Ok(Finishes {
             each,
             earliest,

@@ -51,9 +51,15 @@ impl Nodes {
     pub(crate) fn new(alloc: Global, room: usize) -> Result<Self, NoMemory>
         ensures { IfOk result (λ t. t ≡ record { map = fin.empty; room = room; used = [] }) }
     {
-        let rows = Vec::with_capacity(alloc, room)?;
-        let used = Vec::with_capacity(alloc, room)?;
-        let guesses = Vec::from_elem(alloc, 0, room)?;
+        let Ok(rows) = Vec::with_capacity(alloc, room) else {
+            return Err(NoMemory);
+        };
+        let Ok(used) = Vec::with_capacity(alloc, room) else {
+            return Err(NoMemory);
+        };
+        let Ok(guesses) = Vec::from_elem(alloc, 0, room) else {
+            return Err(NoMemory);
+        };
         Ok(Nodes {
             rows,
             used,

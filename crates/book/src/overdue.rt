@@ -35,7 +35,9 @@ impl Overdue {
         ensures none { IfOk result (λ o. o.limit ≡ None) }
         ensures room { IfOk result (λ o. room ≤ vec_capacity o.names) }
     {
-        let names = Vec::with_capacity(alloc, room)?;
+        let Ok(names) = Vec::with_capacity(alloc, room) else {
+            return Err(AllocError);
+        };
         Ok(Overdue {
             names,
             given: 0,
@@ -111,7 +113,7 @@ fn collect(names: &mut Vec<Name>, table: &NameTable<Place>, finishes: &Finishes,
     prove!(placed <= table.room());
     let mut from = 0;
     while let Some(slot) = finishes.next(from, limit) {
-        names.push(table.name_at(slot).copied()).unwrap();
+        names.push_reserved(table.name_at(slot).copied());
         from = slot + 1;
     }
 }

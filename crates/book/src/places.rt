@@ -80,11 +80,19 @@ impl Places {
         requires { room ≤ MAX_PLACED }
         ensures { IfOk result (λ t. t ≡ record { map = fin.empty; room = room }) }
     {
-        let finishes = Finishes::new(alloc, room)?;
-        let overdue = Overdue::new(alloc, room)?;
+        let Ok(finishes) = Finishes::new(alloc, room) else {
+            return Err(NoMemory);
+        };
+        let Ok(overdue) = Overdue::new(alloc, room) else {
+            return Err(NoMemory);
+        };
         // (of the two tables the places take longer to drop)
-        let totals = NameTable::new(alloc, keys, room)?;
-        let by_uid = NameTable::new(alloc, keys, room)?;
+        let Ok(totals) = NameTable::new(alloc, keys, room) else {
+            return Err(NoMemory);
+        };
+        let Ok(by_uid) = NameTable::new(alloc, keys, room) else {
+            return Err(NoMemory);
+        };
         Ok(Places {
             by_uid,
             totals,
@@ -253,7 +261,9 @@ impl Places {
         }
         let limit = now.0 - EXPIRY;
         self.overdue.gather(&self.by_uid, &self.finishes, limit);
-        let uid = self.overdue.first(&self.by_uid, limit)?;
+        let Some(uid) = self.overdue.first(&self.by_uid, limit) else {
+            return None;
+        };
         self.remove(nodes, &uid);
         Some(uid)
     }

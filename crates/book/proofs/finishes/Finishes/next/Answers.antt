@@ -1,4 +1,4 @@
-use Rattle.std.proofs.Common.{arith}
+use Rattle.std.proofs.Common.{length, ap, arith}
 use Rattle.book.proofs.Earliest.{late_more, one_later, block_later, blocks_later}
 use Rattle.book.proofs.finishes.Finishes.next.Goals as goal
 
@@ -37,3 +37,25 @@ loop-slot-preserved c =
           (one_later f.each.items c.args.limit at c.index-else-slot-eq0-2.result.now
           (omega (arith, c.loop-slot-test.true, c.len.ensures, f.each.ok.0)) c.index-else-slot-eq0-2.ensures c.if-index-limit-3.false);
     }
+
+-- there are fewer left
+pub loop-slot-smaller-then-index-limit : goal.loop-slot-smaller-then-index-limit
+loop-slot-smaller-then-index-limit c = omega (arith, c.loop-slot-test.true, c.len.ensures, c.self.inside.each.ok.0, ap length c.self.view_is)
+
+pub loop-slot-smaller-then-index-limit-2 : goal.loop-slot-smaller-then-index-limit-2
+loop-slot-smaller-then-index-limit-2 c = omega (arith, c.loop-slot-test.true, c.len.ensures, c.self.inside.each.ok.0, ap length c.self.view_is)
+
+pub loop-slot-smaller : goal.loop-slot-smaller
+loop-slot-smaller c = omega (arith, c.loop-slot-test.true, c.len.ensures, c.self.inside.each.ok.0, ap length c.self.view_is)
+
+-- the first slot that isn't later
+pub returns-then-index-limit-3-clause-a_slot : goal.returns-then-index-limit-3-clause-a_slot
+returns-then-index-limit-3-clause-a_slot c = omega (arith, c.loop-slot-test.true, c.len.ensures, c.self.inside.each.ok.0, ap length c.self.view_is)
+
+pub returns-then-index-limit-3-clause-first : goal.returns-then-index-limit-3-clause-first
+returns-then-index-limit-3-clause-first c i from before =
+    c.loop-slot.invariant.late i from before (omega (arith, before, c.loop-slot-test.true, c.len.ensures, c.self.inside.each.ok.0, ap length c.self.view_is))
+
+pub returns-clause-none : goal.returns-clause-none
+returns-clause-none c i from within =
+    c.loop-slot.invariant.late i from (omega (arith, within, c.loop-slot-test.false, c.len.ensures, c.self.inside.each.ok.0, ap length c.self.view_is)) within

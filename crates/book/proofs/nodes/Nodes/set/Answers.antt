@@ -78,3 +78,10 @@ returns-else-len-self-clause-room c =
     let gap : IsGapFor c.self.inside.rows.items c.args.node.name c.in-Err.at = rw (← c.deref.ensures.value, ← c.deref-2.ensures) c.in-Err.ensures.absent in
     let room : length c.self.inside.rows.items < c.self.inside.room = omega (arith, c.self.inside.rows.ok.0) in
     rw (← c.self.view_is) (in_gap _ _ false (has_no_row _ c.self.invariant.in_order _ _ gap) (rw (len_rows _ c.self.invariant.in_order c.args.node.name) (lt-leb _ _ room)))
+
+-- there is room for as many rows as before
+pub returns-in-Ok-clause-same : goal.returns-in-Ok-clause-same
+returns-in-Ok-clause-same c = ap (λ (t : NodeTable). t.room) c.self.view_is
+
+pub returns-else-len-self-clause-same : goal.returns-else-len-self-clause-same
+returns-else-len-self-clause-same c = ap (λ (t : NodeTable). t.room) c.self.view_is

@@ -19,14 +19,13 @@ invariant_of-self c = record {
 }
 
 -- none of those that were gathered has its place still
-pub returns-in_err-uid-clause-none : goal.returns-in_err-uid-clause-none
-returns-in_err-uid-clause-none c =
-    rw c.from_residual.ensures
+pub returns-in_default-clause-none : goal.returns-in_default-clause-none
+returns-in_default-clause-none c =
     (subst (λ (t : Held Place). NoneExpired t.map c.args.now) c.self.view_is
-    (none_expired (map_of c.self.inside.by_uid) c.args.now (omega arith) c.if-now-lt-EXPIRY.false c.in_err-uid.ensures.none))
+    (none_expired (map_of c.self.inside.by_uid) c.args.now (omega arith) c.if-now-lt-EXPIRY.false c.in_default.ensures.none))
 
 -- the first of those that were gathered and have it
 pub returns-clause-first : goal.returns-clause-first
 returns-clause-first c =
-    subst (λ (t : Held Place). IsFirstExpired t.map c.args.now c.in_ok-uid.uid) c.self.view_is
-    (first_expired (map_of c.self.inside.by_uid) c.args.now c.in_ok-uid.uid (omega arith) c.if-now-lt-EXPIRY.false c.in_ok-uid.ensures.finished c.in_ok-uid.ensures.least)
+    subst (λ (t : Held Place). IsFirstExpired t.map c.args.now c.in-Some.uid) c.self.view_is
+    (first_expired (map_of c.self.inside.by_uid) c.args.now c.in-Some.uid (omega arith) c.if-now-lt-EXPIRY.false c.in-Some.ensures.finished c.in-Some.ensures.least)

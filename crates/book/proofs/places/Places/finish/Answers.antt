@@ -34,3 +34,6 @@ returns-clause-alike c =
     c.copied.ensures refl (ap assumed_in c.finished.ensures ∙ assumed_finished c.args.at old.status) in
     let alike : used (map_of c.replace_at.new.self) ≡ used (map_of c.self.inside.by_uid) = λ i q. (sym (counted.each q) ∙ c.self.invariant.counted.each q) i in
     alike ∙ ap (λ (t : Held Place). used t.map) c.self.view_is
+
+pub returns-clause-room : goal.returns-clause-room
+returns-clause-room c = c.replace_at.ensures.room ∙ ap (λ (t : Held Place). t.room) c.self.view_is

@@ -29,17 +29,17 @@ as_long X s n e = ap length e ∙ length-replicate n None
 
 pub invariant_of-result : goal.invariant_of-result
 invariant_of-result c =
-    let places = c.in_ok-by_uid.by_uid in
-    let totals = c.in_ok-totals.totals in
+    let places = c.in-Ok-new-3.by_uid in
+    let totals = c.in-Ok-new-2.totals in
     record {
-      counted = subst (λ n. IsCounted (map_of places) (length places) (map_of totals) n 0) (sym (as_long Res totals _ c.in_ok-totals.ensures))
-          (subst (λ t. IsCounted (map_of places) (length places) t c.args.room 0) (sym (free Res totals _ c.in_ok-totals.ensures))
-          (subst (λ n. IsCounted (map_of places) n fin.empty c.args.room 0) (sym (as_long Place places _ c.in_ok-by_uid.ensures))
-          (subst (λ m. IsCounted m c.args.room fin.empty c.args.room 0) (sym (free Place places _ c.in_ok-by_uid.ensures)) (counted_empty c.args.room c.requires))));
-      timed = c.in_ok-finishes.ensures ∙ sym (never c.args.room) ∙ ap (map finish_in) (sym c.in_ok-by_uid.ensures);
-      room = omega (arith, c.in_ok-overdue.ensures.room, as_long Place places _ c.in_ok-by_uid.ensures);
-      gathered = subst (λ o. IfSome o (λ limit. IsGathered (map_of places) limit c.in_ok-overdue.overdue.names.items c.in_ok-overdue.overdue.given)) (sym c.in_ok-overdue.ensures.none) tt;
+      counted = subst (λ n. IsCounted (map_of places) (length places) (map_of totals) n 0) (sym (as_long Res totals _ c.in-Ok-new-2.ensures))
+          (subst (λ t. IsCounted (map_of places) (length places) t c.args.room 0) (sym (free Res totals _ c.in-Ok-new-2.ensures))
+          (subst (λ n. IsCounted (map_of places) n fin.empty c.args.room 0) (sym (as_long Place places _ c.in-Ok-new-3.ensures))
+          (subst (λ m. IsCounted m c.args.room fin.empty c.args.room 0) (sym (free Place places _ c.in-Ok-new-3.ensures)) (counted_empty c.args.room c.requires))));
+      timed = c.in-Ok.ensures ∙ sym (never c.args.room) ∙ ap (map finish_in) (sym c.in-Ok-new-3.ensures);
+      room = omega (arith, c.in-Ok-new.ensures.room, as_long Place places _ c.in-Ok-new-3.ensures);
+      gathered = subst (λ o. IfSome o (λ limit. IsGathered (map_of places) limit c.in-Ok-new.overdue.names.items c.in-Ok-new.overdue.given)) (sym c.in-Ok-new.ensures.none) tt;
     }
 
 pub returns : goal.returns
-returns c = λ i. held (free Place c.in_ok-by_uid.by_uid _ c.in_ok-by_uid.ensures i) (as_long Place c.in_ok-by_uid.by_uid _ c.in_ok-by_uid.ensures i)
+returns c = λ i. held (free Place c.in-Ok-new-3.by_uid _ c.in-Ok-new-3.ensures i) (as_long Place c.in-Ok-new-3.by_uid _ c.in-Ok-new-3.ensures i)
