@@ -1,20 +1,39 @@
 -- A sweep of a table, slot by slot.
-use Rattle.std.proofs.Common.{◌≡◌, ◌⊎◌, inl, inr, ℕ, ◌+◌, ◌<◌, ◌≤◌, false, List, Option, None, Some, length, set, refl, sym, ap, subst, ◌∙◌, arith, get_or-set_same, get_or-set_other}
+use Rattle.std.proofs.Common.{◌≡◌, ◌≢◌, ◌⊎◌, inl, inr, ℕ, ◌+◌, ◌<◌, ◌≤◌, false, List, Option, None, Some, length, set, refl, sym, ap, subst, ◌∙◌, arith, get_or-set_same, get_or-set_other}
 use Rattle.std.specs.Prelude.{if◌then◌else◌}
 use Rattle.std.specs.Str.{bytes_eq}
 use Rattle.std.specs.Cmp.Lexicographic.{nat_list_cmp_total, bytes_decides}
-use Rattle.std.specs.FinMap.{get, len, get-remove}
+use Rattle.std.specs.FinMap.{get, len, get-remove, remove}
 use Rattle.std.proofs.lemmas.Bool.Decides.{nat_tests, eqb_tells}
 use Rattle.std.proofs.lemmas.Bool.{cases_Bool}
-use Rattle.name_table.proofs.SlotLemmas.{slot_with, within}
+use Rattle.name_table.proofs.FreeLemmas.{free_past}
+use Rattle.name_table.proofs.SlotLemmas.{slot_with, map_at, within}
 use Rattle.name_table.specs.declared.entry.Entry.{Entry}
-use Rattle.name_table.specs.Slots.{Slots, entry_in, map_of, NamesOnce}
+use Rattle.name_table.specs.Slots.{Slots, entry_in, map_of, with_free, NamesOnce}
 use Rattle.book.specs.Cluster.{Cluster}
 use Rattle.book.proofs.TableLemmas.{same_test}
 use Rattle.ledger.specs.Lists.{Side, is_named, is_left, IsSwept}
 use Rattle.ledger.specs.inside.Swept.{IsTakenOut, IsWithout, IsNamedIn, IsSlotSwept}
 
+-- what a written slot has
+pub read_slot : {X : Type 0} (s t : Slots X) (slot : ℕ) (o : Option (Entry X)) → with_free s (length t) ≡ t → o ≡ entry_in s slot → entry_in t slot ≡ o
+read_slot s t slot o is read = ap (λ l. entry_in l slot) (sym is) ∙ free_past s (length t) slot ∙ sym read
+
 module _ {X Y R : Type 0} (side : Side X Y R) where
+  -- the entry of a slot was named
+  pub named_in : (lists slot : ℕ) (e : Entry X) (s : Slots X) → entry_in s slot ≡ Some e → side.list e.value ≡ lists → IsNamedIn side lists slot s
+  named_in lists slot e s there named f is = let one : f ≡ e = cc in ap (λ (g : Entry X). side.list g.value) one ∙ named
+
+  -- or it wasn't, and was taken out
+  pub taken_out : (lists slot : ℕ) (e f : Entry X) (old new : Slots X) → NamesOnce old → entry_in old slot ≡ Some e → side.list e.value ≢ lists → entry_in old slot ≡ Some f → new ≡ set old slot None → map_of new ≡ remove (map_of old) f.name → IsTakenOut side lists slot f old new
+  taken_out lists slot e f old new once is unnamed there slots map = record {
+    there = there;
+    unnamed = λ same. unnamed (let one : e ≡ f = cc in ap (λ (g : Entry X). side.list g.value) one ∙ same);
+    known = map_at old slot f once there;
+    slots = slots;
+    map = map;
+  }
+
   -- what is known of an object, and what stands of it in the book, is as before, or it was unnamed
   -- and is gone
   abbrev pub SameOrGone : ℕ → Slots X → Slots X → Cluster → Cluster → List ℕ → Type 0

@@ -66,9 +66,15 @@ impl Ledger {
         requires { room ≤ 1000000 }
         ensures { IfOk result (λ ledger. ledger ≡ opening limits room) }
     {
-        let nodes = NameTable::new(alloc, keys, limits.nodes)?;
-        let pods = NameTable::new(alloc, keys, room)?;
-        let book = Book::new(alloc, keys, limits)?;
+        let Ok(nodes) = NameTable::new(alloc, keys, limits.nodes) else {
+            return Err(NoMemory);
+        };
+        let Ok(pods) = NameTable::new(alloc, keys, room) else {
+            return Err(NoMemory);
+        };
+        let Ok(book) = Book::new(alloc, keys, limits) else {
+            return Err(NoMemory);
+        };
         Ok(Ledger {
             book,
             pods,

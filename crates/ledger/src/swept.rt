@@ -19,15 +19,12 @@ fn take_unnamed_pod(pods: &mut NameTable<Known>, slot: usize, lists: u64) -> Opt
     ensures once { NamesOnce pods.new }
 {
     let _once = pods.len();
-    match pods.slots().get(slot) {
-        Some(Some(entry)) => {
-            if entry.value.list == lists {
-                return None;
-            }
-        }
-        _ => return None,
+    let Some(Some(entry)) = pods.slots().get(slot) else {
+        return None;
+    };
+    if entry.value.list == lists {
+        return None;
     }
-    let _value = *pods.value_at(slot);
     Some(pods.remove_at(slot))
 }
 
@@ -69,15 +66,12 @@ fn take_unnamed_node(nodes: &mut NameTable<Seen>, slot: usize, lists: u64) -> Op
     ensures once { NamesOnce nodes.new }
 {
     let _once = nodes.len();
-    match nodes.slots().get(slot) {
-        Some(Some(entry)) => {
-            if entry.value.list == lists {
-                return None;
-            }
-        }
-        _ => return None,
+    let Some(Some(entry)) = nodes.slots().get(slot) else {
+        return None;
+    };
+    if entry.value.list == lists {
+        return None;
     }
-    let _value = *nodes.value_at(slot);
     Some(nodes.remove_at(slot))
 }
 

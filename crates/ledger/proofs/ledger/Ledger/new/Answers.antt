@@ -18,16 +18,16 @@ as_long X s n e = ap length e ∙ length-replicate n None
 -- there are as many slots as were asked for
 pub invariant_of-result : goal.invariant_of-result
 invariant_of-result c = (
-  as_long _ c.in_ok-nodes.nodes _ c.in_ok-nodes.ensures ∙ sym (ap (λ book. book.limits.nodes) c.in_ok-book.ensures),
-  omega (arith, as_long _ c.in_ok-pods.pods _ c.in_ok-pods.ensures, c.requires),
+  as_long _ c.in-Ok.nodes _ c.in-Ok.ensures ∙ sym (ap (λ book. book.limits.nodes) c.in-Ok-new-2.ensures),
+  omega (arith, as_long _ c.in-Ok-new.pods _ c.in-Ok-new.ensures, c.requires),
 )
 
 pub returns : goal.returns
 returns c = λ i. record {
-  cluster = c.in_ok-book.ensures i;
-  room = as_long _ c.in_ok-pods.pods _ c.in_ok-pods.ensures i;
-  pods = free _ c.in_ok-pods.pods _ c.in_ok-pods.ensures i;
-  nodes = free _ c.in_ok-nodes.nodes _ c.in_ok-nodes.ensures i;
+  cluster = c.in-Ok-new-2.ensures i;
+  room = as_long _ c.in-Ok-new.pods _ c.in-Ok-new.ensures i;
+  pods = free _ c.in-Ok-new.pods _ c.in-Ok-new.ensures i;
+  nodes = free _ c.in-Ok.nodes _ c.in-Ok.ensures i;
   of_nodes = record { lists = 0; listing = false; fresh = false; listed = false; hears = false };
   of_pods = record { lists = 0; listing = false; fresh = false; listed = false; hears = false };
   rested = false;
