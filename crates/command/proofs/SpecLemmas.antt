@@ -1,9 +1,9 @@
 -- Which plugins words spell.
-use Rattle.std.proofs.Common.{◌≡◌, ◌+◌, ◌&&◌, ◌||◌, ◌-◌, get_or, take, drop, add-one, length-drop, ◌∙◌, ◌<◌, ◌==◌, ℕ, zero, suc, Bool, true, false, List, [], ◌∷◌, ◌++◌, length, map, Option, Some, None, option_map, option_and_then, refl, sym, ap, arith, nat_lt, Bor}
+use Rattle.std.proofs.Common.{◌≡◌, ◌+◌, ◌&&◌, ◌||◌, ◌-◌, get_or, take, drop, add-one, length-drop, ◌∙◌, ◌<◌, ◌≤◌, ◌==◌, ℕ, zero, suc, Bool, true, false, List, [], ◌∷◌, ◌++◌, length, map, Option, Some, None, option_map, option_and_then, refl, sym, ap, arith, nat_lt, Bor}
 use Rattle.std.specs.Prelude.{not, slice_get, unwrap_or}
 use Rattle.std.specs.List.{list_any, position_or_len}
 use Rattle.std.specs.Str.{bytes_eq}
-use Rattle.std.proofs.lemmas.Bool.{lt-ltb, true≢false}
+use Rattle.std.proofs.lemmas.Bool.{lt-ltb, le-leb, true≢false}
 use Rattle.std.proofs.lemmas.Slice.Eq.{bytes_eq-Decides}
 use Rattle.std.proofs.lemmas.Str.Pattern.{IsSplitOnceResult, split_once_first}
 use Rattle.std.proofs.lemmas.List.{length-map, map-append, take_all, take_more, take-append-drop}
@@ -11,7 +11,8 @@ use Rattle.std.proofs.Math.Seq.{drop-cons}
 use Rattle.clap.proofs.SimpleLemmas.{is_false}
 use Rattle.clap.proofs.WalkLemmas.{both}
 use Rattle.command.specs.declared.asked.Spec.{Spec}
-use Rattle.command.specs.Words.{SpecSyntax, cut, each, have_distinct_names, is_named, spec_from, spec_of, syntax_of}
+use Rattle.quant.specs.declared.limits.TheConstants.{MAX_PLUGINS}
+use Rattle.command.specs.Words.{SpecSyntax, cut, each, have_distinct_names, is_named, spec_from, spec_of, specs_of, syntax_of}
 use Rattle.command.specs.Within.{HaveDistinctNames}
 
 -- `split_once` cuts a text at its first colon
@@ -152,3 +153,7 @@ distinct_at specs i spec within at =
     let whole : take (length specs - (i + 1)) (drop (i + 1) specs) ≡ drop (i + 1) specs =
     take_all _ (drop (i + 1) specs) (omega (arith, length-drop (i + 1) specs)) in
     rw (whole, add-one i, drop-cons specs i spec within, at, named_by (drop (suc i) specs) spec.name) refl
+
+-- so few words spell these plugins, of which no two have one name
+pub specs_read : (words : List (List ℕ)) (specs : List SpecSyntax) → length words ≤ MAX_PLUGINS → each spec_of words ≡ Some specs → have_distinct_names specs ≡ true → specs_of words ≡ Some specs
+specs_read words specs few read own = simp (le-leb (length words) MAX_PLUGINS few, read, own)

@@ -209,10 +209,13 @@ fn plan_of<'a>(alloc: Global, matches: &ArgMatches<'a>) -> Result<Plan<'a>, Word
     ensures refused { result ≡ Err WordFault.BadWords → plan_found (rows_of (found_of matches.now)) ≡ None }
     ensures within { IfOk result IsPlan }
 {
-    Ok(Plan {
-        workers: number_behind(matches, Count::Workers)?,
-        specs: specs_behind(alloc, matches)?,
-    })
+    let Ok(workers) = number_behind(matches, Count::Workers) else {
+        return Err(WordFault::BadWords);
+    };
+    match specs_behind(alloc, matches) {
+        Ok(specs) => Ok(Plan { workers, specs }),
+        Err(fault) => Err(fault),
+    }
 }
 
 // The storm that was found behind a command.
@@ -221,12 +224,22 @@ fn storm_of<'a>(alloc: Global, matches: &ArgMatches<'a>) -> Result<StormPlan<'a>
     ensures refused { result ≡ Err WordFault.BadWords → storm_found (rows_of (found_of matches.now)) ≡ None }
     ensures within { IfOk result IsStormPlan }
 {
-    Ok(StormPlan {
-        cycles: number_behind(matches, Count::Cycles)?,
-        binders: number_behind(matches, Count::Binders)?,
-        is_flaky: is_told(matches.get_str("flaky")),
-        specs: specs_behind(alloc, matches)?,
-    })
+    let Ok(cycles) = number_behind(matches, Count::Cycles) else {
+        return Err(WordFault::BadWords);
+    };
+    let Ok(binders) = number_behind(matches, Count::Binders) else {
+        return Err(WordFault::BadWords);
+    };
+    let is_flaky = is_told(matches.get_str("flaky"));
+    match specs_behind(alloc, matches) {
+        Ok(specs) => Ok(StormPlan {
+            cycles,
+            binders,
+            is_flaky,
+            specs,
+        }),
+        Err(fault) => Err(fault),
+    }
 }
 
 // The scheduler whose pods a translation tells, or that wait: the default one where none is named (Kubernetes,
@@ -268,11 +281,16 @@ fn live_of<'a>(alloc: Global, matches: &ArgMatches<'a>) -> Result<LivePlan<'a>, 
     ensures refused { result ≡ Err WordFault.BadWords → live_found (rows_of (found_of matches.now)) ≡ None }
     ensures within { IfOk result (λ plan. IsPlan plan.plan) }
 {
-    Ok(LivePlan {
-        scheduler: scheduler_behind(matches),
-        labels: labels_behind(matches),
-        plan: plan_of(alloc, matches)?,
-    })
+    let scheduler = scheduler_behind(matches);
+    let labels = labels_behind(matches);
+    match plan_of(alloc, matches) {
+        Ok(plan) => Ok(LivePlan {
+            scheduler,
+            labels,
+            plan,
+        }),
+        Err(fault) => Err(fault),
+    }
 }
 
 // A command, by its name.
@@ -380,8 +398,10 @@ pub fn words<'a, S: AsStr>(alloc: Global, args: &'a [S]) -> Result<Words<'a>, Wo
     ensures refused { result ≡ Err WordFault.BadWords → meaning (map S.text args.now) ≡ None }
     ensures within { IfOk result IsWithin }
 {
-    let matches = found_in(alloc, args)?;
-    words_of(alloc, &matches)
+    match found_in(alloc, args) {
+        Ok(matches) => words_of(alloc, &matches),
+        Err(fault) => Err(fault),
+    }
 }
 
 /// The words that follow the program's name.

@@ -59,7 +59,10 @@ pub(crate) fn number_for(count: Count, word: Option<&str>) -> Option<usize>
     ensures most { IfSome result (λ number. number ≤ most_of count) }
 {
     match word {
-        Some(word) => Some(number_up_to(word, count.most() as u64)? as usize),
+        Some(word) => match number_up_to(word, count.most() as u64) {
+            Some(number) => Some(number as usize),
+            None => None,
+        },
         None => Some(count.unless_told()),
     }
 }

@@ -23,7 +23,10 @@ pub fn specs_of<'a>(alloc: Global, words: &[&'a str]) -> Result<Vec<Spec<'a>>, W
     if words.len() > MAX_PLUGINS {
         return Err(WordFault::BadWords);
     }
-    let specs = each_spec(alloc, words)?;
+    let specs = match each_spec(alloc, words) {
+        Ok(specs) => specs,
+        Err(fault) => return Err(fault),
+    };
     if !have_distinct_names(&specs) {
         return Err(WordFault::BadWords);
     }
@@ -41,9 +44,9 @@ fn each_spec<'a>(alloc: Global, words: &[&'a str]) -> Result<Vec<Spec<'a>>, Word
         let Some(spec) = spec_of(*word) else {
             return Err(WordFault::BadWords);
         };
-        if specs.push(spec).is_err() {
+        let Ok(()) = specs.push(spec) else {
             return Err(WordFault::NoMemory);
-        }
+        };
     }
     Ok(specs)
 }
@@ -72,9 +75,15 @@ fn spec_of(word: &str) -> Option<Spec<'_>>
     ensures value { option_map syntax_of result ≡ spec_of word.now }
     ensures limits { IfSome result IsWithinLimits }
 {
-    let (name, behind_name) = cut(word)?;
-    let (weight, behind_weight) = cut(behind_name)?;
-    let (fuel, file) = cut(behind_weight)?;
+    let Some((name, behind_name)) = cut(word) else {
+        return None;
+    };
+    let Some((weight, behind_weight)) = cut(behind_name) else {
+        return None;
+    };
+    let Some((fuel, file)) = cut(behind_weight) else {
+        return None;
+    };
     spec_from(name, weight, fuel, file)
 }
 
@@ -90,12 +99,18 @@ fn spec_from<'a>(name: &str, weight: &str, fuel: &str, file: &'a str) -> Option<
     ensures value { option_map syntax_of result ≡ spec_from name.now weight.now fuel.now file.entry.now }
     ensures limits { IfSome result IsWithinLimits }
 {
-    let name = Name::new(name.as_bytes()).ok()?;
-    let weight = digits_up_to(weight, u64::from(MAX_WEIGHT))? as u8;
-    let fuel = digits_up_to(fuel, MAX_FUEL)?;
+    let Some(weight) = digits_up_to(weight, u64::from(MAX_WEIGHT)) else {
+        return None;
+    };
+    let Some(fuel) = digits_up_to(fuel, MAX_FUEL) else {
+        return None;
+    };
+    let Ok(name) = Name::new(name.as_bytes()) else {
+        return None;
+    };
     Some(Spec {
         name,
-        weight,
+        weight: weight as u8,
         fuel,
         file,
     })
