@@ -37,7 +37,10 @@ pub(crate) fn change_of(event: &Event) -> Result<Change, AllocError>
 {
     Ok(match event {
         Event::ListEnds(kind) => Change::LeftOut(*kind),
-        Event::Node { node, .. } => Change::NodeSet(node.share()?),
+        Event::Node { node, .. } => match node.share() {
+            Ok(node) => Change::NodeSet(node),
+            Err(AllocError) => return Err(AllocError),
+        },
         Event::NodeGone { name } => Change::NodeGone(name.copied()),
         Event::Withheld { uid, .. } => Change::Withheld(uid.copied()),
         Event::Stands {

@@ -78,7 +78,10 @@ impl<J: Naming> LiveDesk<J> {
         ensures opening { IfOk result (λ made. made ≡ opening limits known) }
         ensures faults { IfErr result (λ e. (e ≡ RunFault.NoMemory) ⊎ (e ≡ RunFault.NoPlace)) }
     {
-        let desk = LoneDesk::<J>::new(rt, blank, alloc, keys, limits)?;
+        let desk = match LoneDesk::<J>::new(rt, blank, alloc, keys, limits) {
+            Ok(desk) => desk,
+            Err(fault) => return Err(fault),
+        };
         match tables(alloc, keys, limits, known) {
             Ok((ledger, offered)) => Ok(LiveDesk {
                 desk,
@@ -202,9 +205,14 @@ impl<J: Naming> LiveDesk<J> {
         if self.offered.is_full() {
             return Ok(false);
         }
-        let row = pod.share()?;
+        let Ok(row) = pod.share() else {
+            return Err(NoMemory);
+        };
         let version = self.next_version();
-        let reply = self.answer_step(rt, Step::Event(Watched::PodPending { version, pod }))?;
+        let pending = Step::Event(Watched::PodPending { version, pod });
+        let Ok(reply) = self.answer_step(rt, pending) else {
+            return Err(NoMemory);
+        };
         if let Reply::Refused(_) = reply {
             return Ok(false);
         }
@@ -228,7 +236,9 @@ impl<J: Naming> LiveDesk<J> {
             if is_same_pod(&before.pod, &pod) {
                 return Ok(true);
             }
-            self.drop_pod(rt, pod.uid.copied())?;
+            let Ok(()) = self.drop_pod(rt, pod.uid.copied()) else {
+                return Err(NoMemory);
+            };
         }
         self.offer_new(rt, pod)
     }
@@ -241,7 +251,9 @@ impl<J: Naming> LiveDesk<J> {
         let Some(ticket) = self.ticket_of(&uid) else {
             return self.drop_pod(rt, uid);
         };
-        self.set_ticket(&uid, None)?;
+        let Ok(()) = self.set_ticket(&uid, None) else {
+            return Err(NoMemory);
+        };
         self.step(rt, Step::Forget { uid, ticket })
     }
 
@@ -263,7 +275,9 @@ impl<J: Naming> LiveDesk<J> {
         let Some(slot) = self.offered.find(uid) else {
             return Ok(());
         };
-        let pod = self.offered.value_at(slot).pod.share()?;
+        let Ok(pod) = self.offered.value_at(slot).pod.share() else {
+            return Err(AllocError);
+        };
         self.offered.replace_at(slot, Offered { pod, ticket });
         Ok(())
     }
@@ -277,13 +291,17 @@ impl<J: Naming> LiveDesk<J> {
     pub fn tell<R: Wait>(&mut self, rt: &R, alloc: Global, event: Event) -> Result<Answer, NoMemory>
         ensures { IfOk result (λ answer. IsTaken self.old event answer self.new) }
     {
-        let (names, change) = self.get_ready(alloc, &event)?;
+        let Ok((names, change)) = self.get_ready(alloc, &event) else {
+            return Err(NoMemory);
+        };
         let answer = self.alone(event);
         if !takes(answer) {
             return Ok(answer);
         }
-        self.change(rt, change, &names)?;
-        Ok(answer)
+        match self.change(rt, change, &names) {
+            Ok(()) => Ok(answer),
+            Err(NoMemory) => Err(NoMemory),
+        }
     }
 
     // What the desk is told of an event, if the ledger takes it, with the names that a list leaves
@@ -293,10 +311,16 @@ impl<J: Naming> LiveDesk<J> {
         ensures change { IfOk result (λ ready. ready.1 ≡ change_of event.now) }
     {
         let names = match event {
-            Event::ListEnds(kind) => self.ledger.unnamed(alloc, *kind)?,
+            Event::ListEnds(kind) => match self.ledger.unnamed(alloc, *kind) {
+                Ok(names) => names,
+                Err(_) => return Err(NoMemory),
+            },
             _ => Vec::new(alloc),
         };
-        Ok((names, change_of(event)?))
+        match change_of(event) {
+            Ok(change) => Ok((names, change)),
+            Err(AllocError) => Err(NoMemory),
+        }
     }
 
     // The ledger takes an event.
@@ -334,7 +358,9 @@ impl<J: Naming> LiveDesk<J> {
                 Kind::Nodes => self.drop_node(rt, name.copied()),
                 Kind::Pods => self.drop_pod(rt, name.copied()),
             };
-            told?;
+            let Ok(()) = told else {
+                return Err(NoMemory);
+            };
         }
         Ok(())
     }
@@ -405,7 +431,10 @@ impl<J: Naming> LiveDesk<J> {
         if !self.is_newest(version, &pod) {
             return Ok(Taken::Answers(answer));
         }
-        if !self.offer(rt, pod)? {
+        let Ok(there) = self.offer(rt, pod) else {
+            return Err(NoMemory);
+        };
+        if !there {
             return Ok(Taken::LeftOut);
         }
         Ok(Taken::Answers(answer))
@@ -439,7 +468,9 @@ impl<J: Naming> LiveDesk<J> {
             None => false,
         };
         if is_to_place {
-            self.drop_pod(rt, uid)?;
+            let Ok(()) = self.drop_pod(rt, uid) else {
+                return Err(NoMemory);
+            };
         }
         Ok(is_to_place)
     }
@@ -502,9 +533,13 @@ fn tables(
     ensures offered { IfOk result (λ made. made.1 ≡ replicate limits.queued None) }
 {
     // (of the two the ledger takes longer to drop)
-    let offered = NameTable::new(alloc, keys, limits.queued)?;
-    let ledger = Ledger::new(alloc, keys, limits, known)?;
-    Ok((ledger, offered))
+    let Ok(offered) = NameTable::new(alloc, keys, limits.queued) else {
+        return Err(NoMemory);
+    };
+    match Ledger::new(alloc, keys, limits, known) {
+        Ok(ledger) => Ok((ledger, offered)),
+        Err(_) => Err(NoMemory),
+    }
 }
 
 // Whether what was told was taken, or a bind may be asked for.

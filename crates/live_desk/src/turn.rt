@@ -53,8 +53,10 @@ impl<J: Naming> LiveDesk<J> {
         if !self.ledger.is_open() {
             return Ok(Turn::Shut);
         }
-        let came = self.cycle_alone(rt, decider)?;
-        self.lead(rt, came)
+        match self.cycle_alone(rt, decider) {
+            Ok(came) => self.lead(rt, came),
+            Err(NoMemory) => Err(NoMemory),
+        }
     }
 
     // What a cycle of the desk leads to.
@@ -83,7 +85,10 @@ impl<J: Naming> LiveDesk<J> {
             × (self.new ≡ with_desk self.old desk)) }
         ensures kits { D.kits decider.new ≡ D.kits decider.old }
     {
-        let Some(pod) = self.desk.pop(rt)? else {
+        let Ok(popped) = self.desk.pop(rt) else {
+            return Err(NoMemory);
+        };
+        let Some(pod) = popped else {
             return Ok(Cycled::Idle);
         };
         match self.desk.place(rt, &pod, decider, false) {
@@ -110,7 +115,9 @@ impl<J: Naming> LiveDesk<J> {
             node: there,
         });
         if let Answer::Granted(bind) = answer {
-            self.set_ticket(&uid, Some(ticket))?;
+            let Ok(()) = self.set_ticket(&uid, Some(ticket)) else {
+                return Err(NoMemory);
+            };
             return Ok(Turn::Granted {
                 uid,
                 node,

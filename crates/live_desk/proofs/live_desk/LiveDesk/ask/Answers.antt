@@ -4,7 +4,7 @@ use Rattle.live_desk.proofs.live_desk.LiveDesk.ask.Goals as goal
 pub returns-in-Granted : goal.returns-in-Granted
 returns-in-Granted g c =
     let told = rw (c.copied-pod.ensures, c.copied-there.ensures) at c.in-Granted.ensures.told in
-    granted _ _ _ _ _ _ _ _ told c.in-Granted.ensures.desk c.in_ok-set_ticket.ensures
+    granted _ _ _ _ _ _ _ _ told c.in-Granted.ensures.desk c.in-Ok.ensures
 
 pub returns : goal.returns
 returns g c =

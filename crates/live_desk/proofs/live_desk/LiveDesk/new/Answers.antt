@@ -9,11 +9,11 @@ free : (X : Type 0) (n : ℕ) → filled {X = X} (replicate n None) ≡ []
 free X zero = refl
 free X (suc n) = free X n
 
-pub returns-in-Ok-clause-opening : goal.returns-in-Ok-clause-opening
-returns-in-Ok-clause-opening g c = λ i. record {
-  ledger = c.in-Ok.ensures.ledger i;
-  desk = c.in_ok-desk.ensures.opening i;
-  offered = (ap map_of c.in-Ok.ensures.offered ∙ ap fin.from_entries (free _ c.args.limits.queued)) i;
-  room = (ap length c.in-Ok.ensures.offered ∙ length-replicate c.args.limits.queued None) i;
+pub returns-in-Ok-tables-clause-opening : goal.returns-in-Ok-tables-clause-opening
+returns-in-Ok-tables-clause-opening g c = λ i. record {
+  ledger = c.in-Ok-tables.ensures.ledger i;
+  desk = c.in-Ok.ensures.opening i;
+  offered = (ap map_of c.in-Ok-tables.ensures.offered ∙ ap fin.from_entries (free _ c.args.limits.queued)) i;
+  room = (ap length c.in-Ok-tables.ensures.offered ∙ length-replicate c.args.limits.queued None) i;
   told = 0;
 }

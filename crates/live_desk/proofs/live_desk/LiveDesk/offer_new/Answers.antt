@@ -9,16 +9,16 @@ pub returns-in-Refused : goal.returns-in-Refused
 returns-in-Refused g c =
     let room : has_room c.args.self.now ≡ true = search rules in
     refused c.args.self.now c.next_version-version.new.self c.answer_step.new.self _ _ _ room c.next_version-version.ensures.numbered c.next_version-version.ensures.version
-    c.in_ok-reply.ensures.reply c.in_ok-reply.ensures.after _ c.in-Refused.is
+    c.in-Ok-answer_step.ensures.reply c.in-Ok-answer_step.ensures.after _ c.in-Refused.is
 
 pub returns : goal.returns
 returns g c =
     let room : has_room c.args.self.now ≡ true = search rules in
     let was = c.self-2.view_is in
-    let row : c.in_ok-row.row ≡ c.args.pod = c.in_ok-row.ensures in
+    let row : c.in-Ok.row ≡ c.args.pod = c.in-Ok.ensures in
     let uid : c.copied-uid.result ≡ c.args.pod.uid = c.copied-uid.ensures ∙ ap (λ (p : Pod). p.uid) (c.deref.ensures ∙ row) in
     accepted c.args.self.now c.next_version-version.new.self c.answer_step.new.self _ _ _ room c.next_version-version.ensures.numbered c.next_version-version.ensures.version
-    c.in_ok-reply.ensures.reply c.in_ok-reply.ensures.after _ c.in_default.not-Refused
+    c.in-Ok-answer_step.ensures.reply c.in-Ok-answer_step.ensures.after _ c.in_default-reply.not-Refused
     (λ i. record {
       ledger = (was i).ledger;
       desk = (was i).desk;

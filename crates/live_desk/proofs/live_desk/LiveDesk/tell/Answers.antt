@@ -8,8 +8,8 @@ returns-then-not-takes g c =
     let left : takes c.alone-answer.result ≡ false = search rules in
     not_taken _ _ _ _ _ c.alone-answer.ensures.told c.alone-answer.ensures.desk left refl
 
-pub returns : goal.returns
-returns g c =
+pub returns-in-Ok-change : goal.returns-in-Ok-change
+returns-in-Ok-change g c =
     let took : takes c.alone-answer.result ≡ true = search rules in
-    let names = rw c.deref.ensures.value at c.in_ok-change.ensures in
-    taken _ _ _ _ _ c.alone-answer.ensures.told c.alone-answer.ensures.desk _ _ took c.in_ok-names.ensures.names c.in_ok-names.ensures.change names
+    let names = rw c.deref.ensures.value at c.in-Ok-change.ensures in
+    taken _ _ _ _ _ c.alone-answer.ensures.told c.alone-answer.ensures.desk _ _ took c.in-Ok.ensures.names c.in-Ok.ensures.change names
