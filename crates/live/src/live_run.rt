@@ -110,7 +110,10 @@ fn live_lines<J: Naming, T: Wait + Threads + Sync, D: Decider, R: Source, W: Sin
         (use_of R.remaining R.failure_count source.old source.new)
         (use_of W.written W.failure_count out.old out.new) result }
 {
-    let mut live = LiveDesk::<J>::new(rt, blank, alloc, keys, greatest, MAX_KNOWN)?;
+    let mut live = match LiveDesk::<J>::new(rt, blank, alloc, keys, greatest, MAX_KNOWN) {
+        Ok(live) => live,
+        Err(fault) => return Err(fault),
+    };
     let done = lines_with_room(rt, alloc, site, named, decider, &mut live, source, out);
     live.end(rt);
     done
@@ -134,8 +137,12 @@ fn lines_with_room<J: Naming, T: Wait + Threads + Sync, D: Decider, R: Source, W
         (use_of R.remaining R.failure_count source.old source.new)
         (use_of W.written W.failure_count out.old out.new) result }
 {
-    let mut line = Vec::with_capacity(alloc, MAX_KEPT)?;
-    let mut reader = LineReader::new(alloc)?;
+    let Ok(mut line) = Vec::with_capacity(alloc, MAX_KEPT) else {
+        return Err(RunFault::NoMemory);
+    };
+    let Ok(mut reader) = LineReader::new(alloc) else {
+        return Err(RunFault::NoMemory);
+    };
     let mut waits = Vec::new(alloc);
     let done = answer_lines(
         rt,
@@ -181,11 +188,18 @@ fn answer_lines<J: Naming, T: Wait + Threads + Sync, D: Decider, R: Source, W: S
 {
     'lines: loop {
         let due = !reader.has_line() || waits.len() >= MAX_WAITING;
-        flush_if(due, waits, out)?;
-        if !reader.next_front(MAX_KEPT, source, line, waits)? {
-            return flush_if(true, waits, out);
+        match flush_if(due, waits, out) {
+            Ok(()) => {}
+            Err(fault) => return Err(fault),
         }
-        answer_line(rt, alloc, site, named, decider, live, line, waits)?;
+        match reader.next_front(MAX_KEPT, source, line, waits) {
+            Ok(true) => {}
+            Ok(false) => return flush_if(true, waits, out),
+            Err(fault) => return Err(fault),
+        }
+        let Ok(()) = answer_line(rt, alloc, site, named, decider, live, line, waits) else {
+            return Err(RunFault::NoMemory);
+        };
     }
 }
 
@@ -225,8 +239,12 @@ fn answer_line<J: Naming, T: Wait + Threads + Sync, D: Decider>(
         live.old line.now live.new waits.old.items waits.new.items) }
     ensures kits { D.kits decider.new ≡ D.kits decider.old }
 {
-    let text = answer_to(rt, alloc, site, named, decider, live, line)?;
-    waits.extend_from_slice(&text)?;
+    let Ok(text) = answer_to(rt, alloc, site, named, decider, live, line) else {
+        return Err(NoMemory);
+    };
+    let Ok(()) = waits.extend_from_slice(&text) else {
+        return Err(NoMemory);
+    };
     Ok(())
 }
 
@@ -245,7 +263,9 @@ fn answer_to<J: Naming, T: Wait + Threads + Sync, D: Decider>(
         (meaning (site_of site.now) line.now) (reasons (site_of site.now) line.now) live.old text.items live.new) }
     ensures kits { D.kits decider.new ≡ D.kits decider.old }
 {
-    let Meant { meaning, reasons } = meaning_of(alloc, line, site)?;
+    let Ok(Meant { meaning, reasons }) = meaning_of(alloc, line, site) else {
+        return Err(NoMemory);
+    };
     answer_meant(rt, alloc, site, named, decider, live, meaning, &reasons)
 }
 
@@ -270,23 +290,33 @@ fn answer_meant<J: Naming, T: Wait + Threads + Sync, D: Decider>(
     match meaning {
         Meaning::Tells(event) => {
             let is_withheld = is_withheld(&event);
-            let answer = live.tell(rt, alloc, event)?;
+            let Ok(answer) = live.tell(rt, alloc, event) else {
+                return Err(NoMemory);
+            };
             told_text(alloc, is_withheld, answer, reasons)
         }
         Meaning::Pending(version, pod) => {
-            let taken = live.pending(rt, version, pod)?;
+            let Ok(taken) = live.pending(rt, version, pod) else {
+                return Err(NoMemory);
+            };
             taken_text(alloc, taken, reasons)
         }
         Meaning::Aside(uid) => {
-            let was_there = live.put_aside(rt, uid)?;
+            let Ok(was_there) = live.put_aside(rt, uid) else {
+                return Err(NoMemory);
+            };
             aside_text(alloc, was_there)
         }
         Meaning::Tick(now) => {
-            let reply = live.tick(rt, now)?;
+            let Ok(reply) = live.tick(rt, now) else {
+                return Err(NoMemory);
+            };
             tick_text(alloc, reply)
         }
         Meaning::Cycle => {
-            let turn = live.cycle(rt, decider)?;
+            let Ok(turn) = live.cycle(rt, decider) else {
+                return Err(NoMemory);
+            };
             turn_text(alloc, named, turn)
         }
         Meaning::Explain(uid) => explain(rt, alloc, named, decider, live, &uid),
@@ -310,9 +340,10 @@ fn explain<J: Naming, T: Wait + Threads + Sync, D: Decider>(
     ensures same { live.new ≡ live.old }
     ensures kits { D.kits decider.new ≡ D.kits decider.old }
 {
-    match live.to_place(uid)? {
-        Some(pod) => explain_pod(rt, alloc, named, decider, live, &pod, uid),
-        None => answer_text(alloc, Answer::NotWaiting),
+    match live.to_place(uid) {
+        Ok(Some(pod)) => explain_pod(rt, alloc, named, decider, live, &pod, uid),
+        Ok(None) => answer_text(alloc, Answer::NotWaiting),
+        Err(_) => Err(NoMemory),
     }
 }
 
@@ -331,9 +362,15 @@ fn explain_pod<J: Naming, T: Wait + Threads + Sync, D: Decider>(
     ensures same { live.new ≡ live.old }
     ensures kits { D.kits decider.new ≡ D.kits decider.old }
 {
-    let seen = live.look()?;
-    decider.decide(rt, seen, pod, true)?;
-    let nodes = live.look()?;
+    let Ok(seen) = live.look() else {
+        return Err(NoMemory);
+    };
+    let Ok(_) = decider.decide(rt, seen, pod, true) else {
+        return Err(NoMemory);
+    };
+    let Ok(nodes) = live.look() else {
+        return Err(NoMemory);
+    };
     explained_text(alloc, named, pod, uid, nodes.rows(), decider.verdicts())
 }
 
@@ -347,7 +384,11 @@ fn dump<J: Naming, T: Wait>(
         ≡ dump_text (snapshot live.old.desk.cluster) (reply live.old.desk 0 Count)) }
     ensures after { OnOk result (live.new ≡ steps live.old Count) }
 {
-    let nodes = live.look()?;
-    let reply = live.count(rt)?;
+    let Ok(nodes) = live.look() else {
+        return Err(NoMemory);
+    };
+    let Ok(reply) = live.count(rt) else {
+        return Err(NoMemory);
+    };
     dump_text(alloc, &nodes, reply)
 }
