@@ -70,3 +70,7 @@ lines-preserved g c =
       reads = c.in-Ok-true.ensures.kept (λ eq. subst (λ r. OnErr r ⊥) eq tt) ∙ at.reads;
       writes = c.in-Ok.ensures.count ∙ at.writes;
     }
+
+-- there is less to read
+pub lines-smaller : goal.lines-smaller
+lines-smaller g c = c.in-Ok-true.ensures.less (ap Ok c.in-Ok-true.field-0-test)

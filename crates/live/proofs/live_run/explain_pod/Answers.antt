@@ -30,3 +30,7 @@ returns-clause-explained g c =
     IfOk-weaker c.explained_text.result _ _
     (λ text is. (c.verdicts.result.now, are, is ∙ (λ i. explained_text c.args.named.now (c.deref.ensures i) c.args.uid.now (nodes i) c.verdicts.result.now)))
     c.explained_text.ensures
+
+-- two looks change nothing
+pub returns-clause-same : goal.returns-clause-same
+returns-clause-same g c = c.look-2.ensures.same ∙ c.look.ensures.same
