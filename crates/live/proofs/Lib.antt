@@ -2,3 +2,4 @@ pub mod Kept
 pub mod Going
 pub mod Lived
 pub mod Once
+pub mod Answered
