@@ -29,11 +29,14 @@ impl Ledger {
         requires { name ≡ node.name }
         ensures { became result self.new ≡ node_new self.old version node }
     {
+        if is_full_for(&self.nodes, &name) {
+            return Answer::Full;
+        }
         let change = Change::NodeSet {
             version: next_version(&self.book),
             node,
         };
-        if is_full_for(&self.nodes, &name) || !take(&mut self.book, change) {
+        if !take(&mut self.book, change) {
             return Answer::Full;
         }
         let list = self.of_nodes.lists;

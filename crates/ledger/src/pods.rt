@@ -43,13 +43,16 @@ impl Ledger {
     ) -> Answer
         ensures { became result self.new ≡ stands_new self.old list version uid node request }
     {
+        if is_full_for(&self.pods, &uid) {
+            return self.fall_short();
+        }
         let change = Change::PodBound {
             version: next_version(&self.book),
             uid: uid.copied(),
             node,
             request,
         };
-        if is_full_for(&self.pods, &uid) || !take(&mut self.book, change) {
+        if !take(&mut self.book, change) {
             return self.fall_short();
         }
         self.keep(uid, at_stage(list, version, Stage::Stands))
