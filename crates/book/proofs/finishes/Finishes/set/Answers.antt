@@ -1,4 +1,5 @@
-use Rattle.std.proofs.Common.{◌<◌, ◌*◌, ◌/◌, length, ap, sym, subst, arith}
+use Rattle.std.proofs.Common.{◌≡◌, ◌∙◌, ◌<◌, ◌*◌, ◌/◌, length, ap, sym, subst, arith}
+use Rattle.std.proofs.Math.ListN.{length-set}
 use Rattle.book.specs.inside.Finishes.{IsEarliest}
 use Rattle.book.proofs.Earliest.{restored, put_back}
 use Rattle.book.proofs.finishes.Finishes.set.Goals as goal
@@ -23,3 +24,13 @@ invariant_of-self c = (
   subst (λ l. IsEarliest l c.keep_earliest.new.earliest.items) c.deref.ensures.value c.keep_earliest.ensures.kept,
   subst (λ l. IsEarliest l c.keep_earliest-2.new.earliest.items) c.deref-2.ensures.value c.keep_earliest-2.ensures.kept,
 )
+
+-- as many are kept as before
+pub keep_earliest-requires-clause-here : goal.keep_earliest-requires-clause-here
+keep_earliest-requires-clause-here c = omega (arith, ap length c.deref.ensures.value, length-set c.self.inside.each.items c.args.slot c.args.at, ap length c.self.view_is, c.requires)
+
+pub keep_earliest-requires-2-clause-here : goal.keep_earliest-requires-2-clause-here
+keep_earliest-requires-2-clause-here c =
+    let f = c.self.inside in
+    let same : length c.keep_earliest.new.earliest.items ≡ length f.earliest.items = sym (length-set c.keep_earliest.new.earliest.items (c.args.slot / 64) _) ∙ ap length c.keep_earliest.ensures.block in
+    omega (arith, ap length c.deref-2.ensures.value, same, c.self.invariant.0.many, ap length c.self.view_is, c.requires)

@@ -1,4 +1,5 @@
-use Rattle.std.proofs.Common.{◌∙◌, subst, arith}
+use Rattle.std.proofs.Common.{◌∙◌, ap, subst, arith}
+use Rattle.std.specs.FinMap.{remove}
 use Rattle.name_table.specs.Slots.{map_of}
 use Rattle.book.specs.Expiry.{IsFirstExpired, NoneExpired}
 use Rattle.book.specs.declared.place.Place.{Place}
@@ -29,3 +30,15 @@ pub returns-clause-first : goal.returns-clause-first
 returns-clause-first c =
     subst (λ (t : Held Place). IsFirstExpired t.map c.args.now c.in-Some.uid) c.self.view_is
     (first_expired (map_of c.self.inside.by_uid) c.args.now c.in-Some.uid (omega arith) c.if-now-lt-EXPIRY.false c.in-Some.ensures.finished c.in-Some.ensures.least)
+
+-- it goes
+pub invariant_of-self-2 : goal.invariant_of-self-2
+invariant_of-self-2 c = record {
+  counted = c.self.invariant.counted;
+  timed = c.self.invariant.timed;
+  room = rw c.first.ensures.names (omega (arith, c.self.invariant.room, c.gather.ensures.room));
+  gathered = gathered_for (map_of c.self.inside.by_uid) c.first.new.self.limit _ c.first.new.self.names.items c.first.new.self.given c.first.ensures.gathered (c.first.ensures.limit ∙ c.gather.ensures.limit);
+}
+
+pub returns-clause-gone : goal.returns-clause-gone
+returns-clause-gone c = c.remove.ensures.gone ∙ ap (λ (t : Held Place). record t { map = remove t.map c.in-Some.uid }) c.self.view_is

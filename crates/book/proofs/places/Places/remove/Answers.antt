@@ -1,4 +1,5 @@
 use Rattle.std.proofs.Common.{◌≡◌, ◌-◌, length, Some, None, refl, ap, sym, subst, ◌∙◌, arith}
+use Rattle.std.proofs.lemmas.Bool.{true≢false}
 use Rattle.std.specs.Option.{option_map}
 use Rattle.std.specs.FinMap as fin
 use Rattle.name_table.specs.declared.entry.Entry.{Entry}
@@ -76,3 +77,6 @@ returns-clause-shown c shown =
     let after = c.keep.ensures.shown (used m) (used (fin.remove m uid)) before (c.take-slot_before.ensures.now ∙ each_left old.node)
     (alike_less (used m) (used (fin.remove m uid)) old.node old.request (λ q. sym (used_apart m uid old had q))) in
     subst (λ n. IsShown (used n) c.keep.new.self) (sym (c.remove_at-old.ensures.map ∙ ap (fin.remove m) name)) after
+
+pub returns-clause-kept : goal.returns-clause-kept
+returns-clause-kept c none = absurd (true≢false none)
