@@ -1,4 +1,5 @@
 use Rattle.std.proofs.Common.{arith}
+use Rattle.std.proofs.Math.ListN.{length-set}
 use Rattle.std.proofs.lemmas.List.{set-get_or}
 use Rattle.book.proofs.Earliest.{but_one, earliest_set, lowered, still}
 use Rattle.book.proofs.finishes.keep_earliest.Goals as goal
@@ -24,3 +25,9 @@ returns-else-before-index-clause-kept c =
 
 pub returns-else-before-index-clause-block : goal.returns-else-before-index-clause-block
 returns-else-before-index-clause-block c = set-get_or _ _ _
+
+pub earliest_in-requires-clause-few : goal.earliest_in-requires-clause-few
+earliest_in-requires-clause-few c = omega (arith, c.requires.kept.few, length-set c.args.each.now c.args.at c.args.before)
+
+pub index_mut-requires-then-before-index : goal.index_mut-requires-then-before-index
+index_mut-requires-then-before-index c = omega (arith, c.requires.kept.many, c.requires.here, length-set c.args.each.now c.args.at c.args.before, c.args.earliest.now.ok.0)

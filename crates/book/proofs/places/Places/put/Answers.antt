@@ -189,3 +189,6 @@ returns-else-is_full-clause-put c =
 pub returns-else-is_full-clause-room : goal.returns-else-is_full-clause-room
 returns-else-is_full-clause-room c =
     subst (λ (t : Held Place). is_full_for t.map t.room c.args.uid ≡ false) c.self.view_is (in_gap _ _ false (ap is_some c.in-None.ensures.value) (sym c.is_full.ensures.full ∙ c.if-is_full.false))
+
+pub replace_at-requires : goal.replace_at-requires
+replace_at-requires c = c.in-Some.ensures.filled

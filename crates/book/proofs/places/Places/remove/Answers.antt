@@ -1,5 +1,6 @@
 use Rattle.std.proofs.Common.{◌≡◌, ◌-◌, length, Some, None, refl, ap, sym, subst, ◌∙◌, arith}
 use Rattle.std.proofs.lemmas.Bool.{true≢false}
+use Rattle.std.proofs.lemmas.Option.{same_Some}
 use Rattle.std.specs.Option.{option_map}
 use Rattle.std.specs.FinMap as fin
 use Rattle.name_table.specs.declared.entry.Entry.{Entry}
@@ -45,7 +46,7 @@ pub invariant_of-self : goal.invariant_of-self
 invariant_of-self c =
     let had : fin.get (map_of c.self.inside.by_uid) c.args.uid.now ≡ Some c.remove_at-old.result.value = c.in-Some.ensures.value ∙ ap (option_map (λ (e : Entry Place). e.value)) c.remove_at-old.ensures.entry in
     let named : Some c.remove_at-old.result.name ≡ Some c.args.uid.now = sym (ap (option_map (λ (e : Entry Place). e.name)) c.remove_at-old.ensures.entry) ∙ c.in-Some.ensures.name in
-    let name : c.remove_at-old.result.name ≡ c.args.uid.now = cc in
+    let name : c.remove_at-old.result.name ≡ c.args.uid.now = same_Some _ _ named in
     let gone = c.remove_at-old.ensures.map ∙ ap (fin.remove (map_of c.self.inside.by_uid)) name in
     record {
       counted = counted_less (map_of c.self.inside.by_uid) (length c.self.inside.by_uid) (map_of c.self.inside.totals) (length c.self.inside.totals) c.self.inside.assumed c.self.invariant.counted
@@ -59,7 +60,7 @@ invariant_of-self c =
 pub returns-clause-gone : goal.returns-clause-gone
 returns-clause-gone c =
     let named : Some c.remove_at-old.result.name ≡ Some c.args.uid.now = sym (ap (option_map (λ (e : Entry Place). e.name)) c.remove_at-old.ensures.entry) ∙ c.in-Some.ensures.name in
-    let name : c.remove_at-old.result.name ≡ c.args.uid.now = cc in
+    let name : c.remove_at-old.result.name ≡ c.args.uid.now = same_Some _ _ named in
     let gone = c.remove_at-old.ensures.map ∙ ap (fin.remove (map_of c.self.inside.by_uid)) name in
     (λ i. held (gone i) (c.remove_at-old.ensures.room i)) ∙ ap {A = Held Place} {B = Held Place} (λ t. record t { map = fin.remove t.map c.args.uid.now }) c.self.view_is
 
@@ -71,7 +72,7 @@ returns-clause-shown c shown =
     let uid = c.args.uid.now in
     let had : fin.get m uid ≡ Some old = c.in-Some.ensures.value ∙ ap (option_map (λ (e : Entry Place). e.value)) c.remove_at-old.ensures.entry in
     let named : Some c.remove_at-old.result.name ≡ Some uid = sym (ap (option_map (λ (e : Entry Place). e.name)) c.remove_at-old.ensures.entry) ∙ c.in-Some.ensures.name in
-    let name : c.remove_at-old.result.name ≡ uid = cc in
+    let name : c.remove_at-old.result.name ≡ uid = same_Some _ _ named in
     let each_left = each_less m uid old had (map_of c.self.inside.totals) (map_of c.take-slot_before.new.totals) c.self.invariant.counted.each c.take-slot_before.ensures.each in
     let before = subst (λ (t : Held Place). IsShown (used t.map) c.args.nodes.now) (sym c.self.view_is) shown in
     let after = c.keep.ensures.shown (used m) (used (fin.remove m uid)) before (c.take-slot_before.ensures.now ∙ each_left old.node)
