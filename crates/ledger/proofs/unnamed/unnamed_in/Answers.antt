@@ -1,7 +1,11 @@
-use Rattle.std.proofs.Common.{refl, sym, ap, ◌∙◌}
+use Rattle.std.proofs.Common.{◌≡◌, ℕ, List, [], ◌∷◌, ◌++◌, refl, sym, ap, ◌∙◌}
 use Rattle.ledger.proofs.Omitted.{step, with_name, without_name, without_slot, all_in_order}
 use Rattle.ledger.proofs.unnamed.unnamed_in.Goals as goal
 use Rattle.ledger.proofs.unnamed.unnamed_in.Goals.{then-list-lists+in-Ok, else-list-lists}
+
+-- what a name was added to has the name that was copied
+pushed : (after names : List (List ℕ)) (copy name : List ℕ) (items : List (List ℕ)) → after ≡ items → items ≡ names ++ copy ∷ [] → copy ≡ name → after ≡ names ++ name ∷ []
+pushed after names copy name items is added same = is ∙ added ∙ ap (λ n. names ++ n ∷ []) same
 
 -- a free slot has no name
 pub loop-slot-preserved-in_default : goal.loop-slot-preserved-in_default
@@ -20,7 +24,7 @@ loop-slot-preserved g c =
     elim c.if-list-lists.branch [
       | then-list-lists+in-Ok w ↦
           with_name g.V.Listed.list c.args.lists names after c.slot-item.result c.in-Some.entry c.in-Some.is (λ same. w.if-list-lists.true (c.list.ensures ∙ same))
-          (let is = ap (λ (v : _). v.items) w.names-is in cc (w.in-Ok.ensures.items, w.copied.ensures))
+          (pushed after names w.copied.result c.in-Some.entry.name w.push.new.self.items (ap (λ (v : _). v.items) w.names-is) w.in-Ok.ensures.items w.copied.ensures)
       | else-list-lists w ↦
           without_name g.V.Listed.list c.args.lists names after c.slot-item.result c.in-Some.entry c.in-Some.is (sym c.list.ensures ∙ w.if-list-lists.false) (ap (λ (v : _). v.items) w.names-is)
     ]
