@@ -194,7 +194,7 @@ not_read e (inr (inr is)) other = cc
 one_fault : (e e' : RunFault) (r : Result Bool RunFault) → r ≡ Err e → r ≡ Err e' → e ≡ e'
 one_fault e e' r is other = cc
 
-pub run_of : {D : Type 0} (rules : D → RuleSet) (deciders : List D) (binders : ℕ) (source sink : DeviceUse) (steps : List Step) (result : Result Bool RunFault)
+run_of : {D : Type 0} (rules : D → RuleSet) (deciders : List D) (binders : ℕ) (source sink : DeviceUse) (steps : List Step) (result : Result Bool RunFault)
     → AreOfScript steps source → source.failures_new ≡ source.failures_old
     → IfOk result (Storms rules deciders binders steps (Appends sink.old sink.new))
     → (result ≡ Err Write → (answer : Bool) × Storms rules deciders binders steps (AppendsFront sink.old sink.new) answer)
@@ -221,3 +221,15 @@ run_of rules deciders binders source sink steps (Err e) read reads storm front q
   read_told = λ _. reads;
   write_told = write_told;
 }
+
+-- so of what was promised of these steps told of under another name
+pub run_from : {D : Type 0} (rules : D → RuleSet) (deciders : List D) (binders : ℕ) (source sink : DeviceUse) (steps shown : List Step) (result : Result Bool RunFault)
+    → AreOfScript steps source → source.failures_new ≡ source.failures_old → shown ≡ steps → IsStormOf rules deciders binders shown sink result
+    → IsStormRun rules deciders binders source sink result
+run_from rules deciders binders source sink steps shown result read reads same told =
+    let of : IsStormOf rules deciders binders steps sink result = subst (λ (x : List Step). IsStormOf rules deciders binders x sink result) same told in
+    run_of rules deciders binders source sink steps result read reads of.storm of.front of.quiet of.faults of.write of.write_told
+
+-- who gives something met no fault
+pub none_failed : {X : Type 0} (x : X) (e : RunFault) → ◌≡◌ {A = Result X RunFault} (Ok x) (Err e) → ⊥
+none_failed x e is = cc

@@ -27,6 +27,10 @@ module _ {J T : Type 0} (desk : Desk) (P : Worker J T → Worker J T → Type 0)
 pub left : {J T : Type 0} (P : Worker J T → Worker J T → Type 0) (ws ws1 ws' : List (Worker J T)) → ws1 ≡ ws' → Each P ws ws1 → Each P ws ws'
 left {J} {T} P ws ws1 ws' same each = subst (λ (x : List (Worker J T)). Each P ws x) same each
 
+-- so does what one of them left
+pub left_one : {J T : Type 0} (P : Worker J T → Worker J T → Type 0) (w w1 w2 w' : Worker J T) → w1 ≡ w → w2 ≡ w' → P w1 w2 → P w w'
+left_one P w w1 w2 w' same same' h = subst (λ x. P x w') same (subst (P w1) same' h)
+
 module _ {J T : Type 0} (desk : Desk) (P : Worker J T → Worker J T → Type 0) (keeps : (w w' : Worker J T) → P w w' → w'.pass.caller.number ≡ w.pass.caller.number) (ws ws1 ws' : List (Worker J T)) where
   -- so their passes stay of the desk
   pub left_passes : ArePassesOf desk ws → ws1 ≡ ws' → Each P ws ws1 → ArePassesOf desk ws'

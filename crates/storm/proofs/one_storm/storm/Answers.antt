@@ -2,7 +2,7 @@ use Rattle.std.proofs.Common.{length}
 use Rattle.choose.specs.Kits.{rules_of}
 use Rattle.streams.specs.Device.{use_of}
 use Rattle.streams.proofs.Greatest.{limits_same}
-use Rattle.storm.proofs.Ending.{run_of}
+use Rattle.storm.proofs.Ending.{none_failed, run_from}
 use Rattle.storm.proofs.one_storm.storm.Goals as goal
 
 -- the program's limits are the greatest
@@ -14,7 +14,6 @@ storm_on-requires-clause-greatest g c κs within =
 -- the script was read whole
 pub returns : goal.returns
 returns g c =
-    run_of (λ d. rules_of g.D.Kit.Rules.answers (g.D.Decider.kits d)) c.args.deciders.items (length c.args.binders.items)
+    run_from (λ d. rules_of g.D.Kit.Rules.answers (g.D.Decider.kits d)) c.args.deciders.items (length c.args.binders.items)
     (use_of g.S.Source.remaining g.S.Source.failure_count c.args.source.now c.read_script.new.source) (use_of g.W.Sink.written g.W.Sink.failure_count c.args.sink.now c.storm_on.new.sink)
-    c.in_ok-steps.steps.items c.storm_on.result c.in_ok-steps.ensures.read (c.in_ok-steps.ensures.told (λ eq. cc))
-    (rw c.deref.ensures.value at c.storm_on.ensures.storm) (rw c.deref.ensures.value at c.storm_on.ensures.front) c.storm_on.ensures.quiet c.storm_on.ensures.faults c.storm_on.ensures.write c.storm_on.ensures.write_told
+    c.in_ok-steps.steps.items c.deref.result.now c.storm_on.result c.in_ok-steps.ensures.read (c.in_ok-steps.ensures.told (none_failed _ _)) c.deref.ensures.value c.storm_on.ensures

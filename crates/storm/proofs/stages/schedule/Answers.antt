@@ -1,7 +1,22 @@
-use Rattle.std.proofs.Common.{◌<◌, sym, subst, rules}
-use Rattle.storm.specs.inside.Stages.{HasFed}
-use Rattle.storm.proofs.Staging.{all_fed_met, all_scheduled, first_idle, left_passes}
+use Rattle.std.proofs.Common.{◌≡◌, ◌<◌, false, true, length, sym, subst, ◌∙◌, rules}
+use Rattle.std.specs.Option.{IsSome}
+use Rattle.storm.specs.inside.Stages.{HasFed, HasScheduled}
+use Rattle.storm.proofs.Staging.{all_fed_met, all_scheduled, first_idle, left_passes, still_passes}
 use Rattle.storm.proofs.stages.schedule.Goals as goal
+
+-- what the option held was taken
+pub returns-in_default : goal.returns-in_default
+returns-in_default g c =
+    let no : false ≡ true = subst IsSome (sym c.take.ensures.value ∙ c.in_default.is) c.requires.sender in
+    absurd (cc)
+
+-- the first cycle pass is still of this desk
+pub finish-requires-clause-first : goal.finish-requires-clause-first
+finish-requires-clause-first g c κs within =
+    let of = still_passes c.args.stage.now.desk.now (HasScheduled g.D.Kit.Rules.answers g.D.Decider.kits c.args.stage.now.desk.now) (λ w w' turned. turned.number) c.args.cyclers.now c.join_mut.new.f.3.now
+    c.requires.cyclers c.join_mut.ensures.0.met.1 in
+    let some : 0 < length c.join_mut.new.f.3.now = subst (λ n. 0 < n) (sym c.join_mut.ensures.0.met.1.0) c.requires.some in
+    search (rules, of 0 c.index-cyclers-0.result some)
 
 -- the feeders' passes are still of this desk
 pub finish-requires-clause-feeders : goal.finish-requires-clause-feeders

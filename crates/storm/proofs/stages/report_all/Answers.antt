@@ -1,0 +1,7 @@
+use Rattle.storm.specs.inside.Stages.{HasReported}
+use Rattle.storm.proofs.Staging.{left_one}
+use Rattle.storm.proofs.stages.report_all.Goals as goal
+
+-- each did what its closure tells
+pub returns : goal.returns
+returns g c = (c.for_each_mut.auto.s, λ i d lt. let at = (c.for_each_mut.ensures i d lt).1 in left_one (HasReported) _ _ _ _ at.argument_is at.left at.call)
