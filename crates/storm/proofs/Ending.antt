@@ -1,5 +1,5 @@
 -- From what the workers of a storm did to what a storm promises.
-use Rattle.std.proofs.Common.{◌≡◌, ◌≢◌, ℕ, ◌+◌, ◌<◌, ◌↔◌, Bool, List, [], ◌∷◌, length, Result, Ok, Err, IfOk, IfErr, OnErr, ◌⊎◌, inl, inr, refl, sym, subst, ◌∙◌, arith}
+use Rattle.std.proofs.Common.{◌≡◌, ◌≢◌, ℕ, ◌+◌, ◌<◌, ◌↔◌, Bool, List, [], ◌∷◌, length, Result, Ok, Err, IfOk, IfErr, IfSome, OnErr, Some, ◌⊎◌, inl, inr, refl, sym, subst, ◌∙◌, arith}
 use Rattle.std.specs.Bool.{IsTrue}
 use Rattle.std.specs.Io.KnownBytes.{Appends}
 use Rattle.manifest.specs.declared.fault.LineFault.{LineFault}
@@ -18,6 +18,7 @@ use Rattle.streams.specs.Device.{DeviceUse, AppendsFront}
 use Rattle.crew.specs.declared.worker.Worker.{Worker}
 use Rattle.crew.specs.Made.{BeginsWith, newcomer}
 use Rattle.crew.specs.Crew.{enlisted}
+use Rattle.watch_script.specs.Script.{first_storm_fault}
 use Rattle.storm.specs.Storm.{IsStorm, IsAudit, Storms, AreOfScript, IsStormRun, desk_for, storm_text}
 use Rattle.storm.specs.inside.Ending.{IsWorked, HasEnded, IsClosedAndTold, IsStormOf}
 use Rattle.crew.proofs.Going.{begins_trans, goes_begins}
@@ -233,3 +234,25 @@ run_from rules deciders binders source sink steps shown result read reads same t
 -- who gives something met no fault
 pub none_failed : {X : Type 0} (x : X) (e : RunFault) → ◌≡◌ {A = Result X RunFault} (Ok x) (Err e) → ⊥
 none_failed x e is = cc
+
+-- the same fault, of another result
+same_fault : {X Y : Type 0} {e e' : RunFault} → ◌≡◌ {A = Result X RunFault} (Err e) (Err e') → ◌≡◌ {A = Result Y RunFault} (Err e) (Err e')
+same_fault is = cc
+
+-- the script wasn't read
+pub unread : {D X : Type 0} (rules : D → RuleSet) (deciders : List D) (binders : ℕ) (source sink : DeviceUse) (e : RunFault)
+    → ((number : ℕ) (fault : LineFault) → ◌≡◌ {A = Result X RunFault} (Err e) (Err (Line number fault)) → IfSome source.old (λ script. first_storm_fault script ≡ Some (number, fault)))
+    → (◌≡◌ {A = Result X RunFault} (Err e) (Err Read) → source.failures_old < source.failures_new)
+    → (◌≢◌ {A = Result X RunFault} (Err e) (Err Read) → source.failures_new ≡ source.failures_old)
+    → ◌≢◌ {A = Result X RunFault} (Err e) (Err Write) → sink.IsUntouched → sink.failures_new ≡ sink.failures_old
+    → IsStormRun rules deciders binders source sink (Err e)
+unread rules deciders binders source sink e line failed told no_write untouched same = record {
+  done = tt;
+  front = λ is. absurd (no_write (same_fault is));
+  line = λ number fault is. line number fault (same_fault is);
+  quiet = λ _. untouched;
+  read = λ is. failed (same_fault is);
+  write = λ is. absurd (no_write (same_fault is));
+  read_told = λ other. told (λ is. other (same_fault is));
+  write_told = λ _. same;
+}

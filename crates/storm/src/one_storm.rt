@@ -302,16 +302,18 @@ pub fn storm<
     ensures { IsStormRun (λ d. rules_of D.Kit.answers (D.kits d)) deciders.items (length binders.items)
         (use_of S.remaining S.failure_count source.old source.new) (use_of W.written W.failure_count sink.old sink.new) result }
 {
-    let steps = read_script(rt, alloc, source)?;
-    storm_on::<Brand, R, D, W>(
-        rt,
-        Blank::new(),
-        alloc,
-        keys,
-        Limits::greatest(),
-        &steps,
-        deciders,
-        binders,
-        sink,
-    )
+    match read_script(rt, alloc, source) {
+        Err(fault) => Err(fault),
+        Ok(steps) => storm_on::<Brand, R, D, W>(
+            rt,
+            Blank::new(),
+            alloc,
+            keys,
+            Limits::greatest(),
+            &steps,
+            deciders,
+            binders,
+            sink,
+        ),
+    }
 }
