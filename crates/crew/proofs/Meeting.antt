@@ -4,8 +4,10 @@ use Rattle.std.specs.List.{All}
 use Rattle.std.proofs.lemmas.Bool.{cases_lt}
 use Rattle.std.proofs.lemmas.List.{get_or_default, get_or-set_same, get_or-set_other, length-set}
 use Rattle.desk.specs.Caller.{Caller}
+use Rattle.desk.specs.declared.step.Step.{Step}
 use Rattle.desk.specs.declared.step.Step.TheVariants as steps
 use Rattle.desk.specs.declared.step.Counts.{Counts}
+use Rattle.desk.specs.declared.step.Reply.{Reply}
 use Rattle.desk.specs.declared.step.Reply.TheVariants as replies
 use Rattle.desk.specs.History.{Call, Legal, GoesOn, call}
 use Rattle.desk.specs.Shared.{Pass, Desk, IsAhead, IsApplied, IsLooked, IsPassOf, Met}
@@ -64,6 +66,13 @@ module _ {J T : Type 0} (desk : Desk) (p q : Pass) (ws ws' : List (Worker J T)) 
   met_stay m of i d lt =
       let lt' : i < length ws = subst (λ n. i < n) m.each.0 lt in
       subst (λ (w : Worker J T). IsPassOf w.pass desk) (sym (m.each.1 i d lt').same) (of i d lt')
+
+-- so does who counts or looks
+pub counts_stay : (desk : Desk) (p q : Pass) (e : Step) (answer : Reply) → IsApplied desk p e answer q → IsPassOf p desk → IsPassOf q desk
+counts_stay desk p q e answer a of = subst (λ (k : Caller). k.number < desk.handed) (sym a.counted) of
+
+pub looks_stay : (desk : Desk) (p q : Pass) (rows : List Shown) → IsLooked desk p rows q → IsPassOf p desk → IsPassOf q desk
+looks_stay desk p q rows s of = subst (λ (k : Caller). k.number < desk.handed) (sym s.same) of
 
 module _ {J D B : Type 0} (desk : Desk) (k0 k1 k2 k3 k4 k5 k6 k7 k8 : Pass) (f1 f2 f3 : List (Worker J (Unit {0}))) (c1 c2 c3 : List (Worker J D)) (r1 r2 r3 : List (Worker J B)) (counts : Counts) (rows : List Shown) where
   pub dumped : HaveMet desk k0 f1 k1 f2 → HaveMet desk k1 c1 k2 c2 → HaveMet desk k2 r1 k3 r2 → IsApplied desk k3 steps.Count (replies.Counts counts) k4 → IsLooked desk k4 rows k5

@@ -45,8 +45,12 @@ pub fn take_dump<J: Naming, R: Wait, D: Drop>(
     meet_each(rt, desk, clerk, feeders);
     meet_each(rt, desk, clerk, cyclers);
     meet_each(rt, desk, clerk, reporters);
-    let counts = desk.count(rt, clerk)?;
-    let shown = desk.look(clerk)?;
+    let Ok(counts) = desk.count(rt, clerk) else {
+        return Err(NoMemory);
+    };
+    let Ok(shown) = desk.look(clerk) else {
+        return Err(NoMemory);
+    };
     meet_each(rt, desk, clerk, feeders);
     meet_each(rt, desk, clerk, cyclers);
     meet_each(rt, desk, clerk, reporters);

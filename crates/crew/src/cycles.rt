@@ -81,10 +81,10 @@ fn cycle_beside<J: Naming, R: Wait + Threads + Sync, D: Decider>(
         let Ok(idle) = turn(rt, desk, jobs, pass, decider) else {
             return Err(NoMemory);
         };
-        if idle && heard.is_last() {
-            return Ok(());
-        }
         if idle {
+            if heard.is_last() {
+                return Ok(());
+            }
             bell.wait_past(rt, heard);
         }
     }
