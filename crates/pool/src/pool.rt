@@ -92,7 +92,9 @@ impl<J: Site, K: Rules + Drop, G: Gate + Drop> Pool<J, K, G> {
         requires others { All (λ kit. SpeaksFor J.Says (K.answers kit)) others.items }
         ensures { IfOk result (λ pool. pool.kits ≡ first ∷ []) }
     {
-        let helpers = start_helpers(rt, alloc, others, &gate)?;
+        let Ok(helpers) = start_helpers(rt, alloc, others, &gate) else {
+            return Err(NoMemory);
+        };
         Ok(Pool {
             alloc,
             gate,
@@ -223,8 +225,12 @@ where
 {
     let mut kits = kits;
     let mut helpers = Vec::new(alloc);
-    helpers.reserve(kits.len())?;
-    start_each(rt, alloc, &mut kits, gate, &mut helpers)?;
+    let Ok(()) = helpers.reserve(kits.len()) else {
+        return Err(NoMemory);
+    };
+    let Ok(()) = start_each(rt, alloc, &mut kits, gate, &mut helpers) else {
+        return Err(NoMemory);
+    };
     Ok(helpers)
 }
 
@@ -281,9 +287,12 @@ fn decide_with<J: Site, K: Rules + Drop, G: Gate, R: Wait>(
     if many == 0 {
         return Ok(choose_here(&snapshot, pod, gate, home, verdicts));
     }
+    let Ok(shared) = pod.share() else {
+        return Err(NoMemory);
+    };
     let asked = Asked {
         snapshot,
-        pod: pod.share()?,
+        pod: shared,
         pieces: many + 1,
     };
     match history.add(asked) {

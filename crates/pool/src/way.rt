@@ -81,7 +81,9 @@ impl<T: Drop, H: Holds<T>> Drop for Inbox<T, H> {
 
 /// Both ends of a new way.
 pub fn way<T: Drop, H: Holds<T>>(alloc: Global) -> Result<(Outbox<T, H>, Inbox<T, H>), AllocError> {
-    let (sender, receiver, mut seat) = bounded_with::<T, (), Each<H>, Global>(alloc, 1)?;
+    let Ok((sender, receiver, mut seat)) = bounded_with::<T, (), Each<H>, Global>(alloc, 1) else {
+        return Err(AllocError);
+    };
     let other = sender.another::<Twin>(&mut seat);
     let outbox = Outbox { sender, seat };
     let inbox = Inbox {

@@ -60,8 +60,12 @@ impl<J: Site, K: Rules + Drop> Drop for Bench<J, K> {
 
 // Makes both ways.
 fn ways<J: Site, K: Rules + Drop>(alloc: Global) -> Result<(Hand<J, K>, Bench<J, K>), AllocError> {
-    let (jobs, inbox) = way::<Job<J, K>, OfPool<J>>(alloc)?;
-    let (outbox, results) = way::<Done<J, K>, OfPool<J>>(alloc)?;
+    let Ok((jobs, inbox)) = way::<Job<J, K>, OfPool<J>>(alloc) else {
+        return Err(AllocError);
+    };
+    let Ok((outbox, results)) = way::<Done<J, K>, OfPool<J>>(alloc) else {
+        return Err(AllocError);
+    };
     let hand = Hand { jobs, results };
     let bench = Bench {
         jobs: inbox,
@@ -76,9 +80,9 @@ fn work<J: Site, K: Rules + Drop, G: Gate, R: Wait>(rt: &R, gate: &G, bench: &mu
         let Some(job) = bench.jobs.receive(rt) else {
             return;
         };
-        if bench.results.send(rt, judge_job(gate, job)).is_err() {
+        let Ok(()) = bench.results.send(rt, judge_job(gate, job)) else {
             return;
-        }
+        };
     }
 }
 
@@ -96,7 +100,9 @@ impl<J: Site, K: Rules + Drop> Hand<J, K> {
         K: Send + 'static,
         K::Notes: Send + 'static,
     {
-        let (hand, bench) = ways(alloc)?;
+        let Ok((hand, bench)) = ways(alloc) else {
+            return Err(AllocError);
+        };
         // It isn't joined: that it is gone shows by its end of the results, which it gives up last.
         let _detached = thread::spawn(&rt, move || {
             let mut bench = bench;

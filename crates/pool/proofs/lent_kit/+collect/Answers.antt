@@ -1,4 +1,4 @@
-use Rattle.std.proofs.Common.{◌≡◌, ℕ, ◌+◌, ◌-◌, length, arith, sym, subst}
+use Rattle.std.proofs.Common.{◌≡◌, ◌∙◌, ℕ, ◌+◌, ◌-◌, length, arith, sym, subst}
 use Rattle.pieces.specs.Pieces.{places_of, nodes_of, ArePieces}
 use Rattle.pool.specs.Speaking.{SpeaksFor}
 use Rattle.pool.specs.inside.Speaking.{AreSaid}
@@ -55,3 +55,6 @@ pub fill-requires-clause-pieces : goal.fill-requires-clause-pieces
 fill-requires-clause-pieces g t c =
     let asked = c.args.order.now in
     subst (λ n. ArePieces (length asked.snapshot) asked.pieces c.args.first n (length c.args.verdicts.now)) (omega arith) c.requires.pieces
+
+pub returns-clause-stays : goal.returns-clause-stays
+returns-clause-stays g t c = c.collect.ensures.stays ∙ c.fill-2.ensures.stays

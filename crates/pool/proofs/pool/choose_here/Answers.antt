@@ -1,4 +1,6 @@
-use Rattle.std.proofs.Common.{subst}
+use Rattle.std.proofs.Common.{◌∙◌, length, ap, sym, subst}
+use Rattle.std.proofs.lemmas.List.{length-map}
+use Rattle.desk.specs.Shown.{shown}
 use Rattle.choose.specs.Choice.{AreVerdicts}
 use Rattle.pool.proofs.Collecting.{choice_is}
 use Rattle.pool.proofs.pool.choose_here.Goals as goal
@@ -16,3 +18,11 @@ returns-clause-judged g c =
     let rules = g.K.Rules.answers c.args.home.now in
     subst (λ pod. AreVerdicts rules pod c.args.snapshot.now c.judge.new.verdicts) c.deref.ensures
     (subst (λ ns. AreVerdicts rules c.deref.result.now ns c.judge.new.verdicts) c.rows-rows.ensures c.judge.ensures.are)
+
+-- there is a verdict on each row
+
+pub decide-requires : goal.decide-requires
+decide-requires g c = c.judge.auto.verdicts ∙ (c.requires ∙ (sym (ap length c.rows-rows.ensures) ∙ length-map c.rows-rows.result.now shown))
+
+pub judge-requires : goal.judge-requires
+judge-requires g c = c.requires ∙ (sym (ap length c.rows-rows.ensures) ∙ length-map c.rows-rows.result.now shown)

@@ -1,4 +1,4 @@
-use Rattle.std.proofs.Common.{◌∙◌, length, ap, sym, arith, subst}
+use Rattle.std.proofs.Common.{◌∙◌, length, length-append, ap, sym, arith, subst}
 use Rattle.std.proofs.lemmas.List.{length-map}
 use Rattle.std.specs.Arc.{arc_value}
 use Rattle.choose.specs.Choice.{AreVerdicts, Choice}
@@ -30,3 +30,18 @@ decide-requires g c =
     let rows = simp length-map at (ap length c.rows.ensures) in
     let asked = ap (λ a. length a.snapshot) (c.asked.ensures ∙ (c.deref-2.ensures ∙ c.in-Ok.ensures.ok)) in
     c.judge_and_collect.auto.verdicts ∙ (c.requires.places ∙ sym (rows ∙ asked))
+
+pub judge_and_collect-requires-clause-places : goal.judge_and_collect-requires-clause-places
+judge_and_collect-requires-clause-places g c = c.requires.places ∙ sym (ap (λ a. length a.snapshot) (c.deref.ensures ∙ c.in-Ok.ensures.ok))
+
+pub returns-clause-length : goal.returns-clause-length
+returns-clause-length g c =
+    let both = length-append c.judge_and_collect.new.helpers c.split_at_mut-woken.result.1.now in
+    let halves = ap length c.split_at_mut-woken.ensures.value in
+    let before = length-append c.split_at_mut-woken.result.0.now c.split_at_mut-woken.result.1.now in
+    omega (arith, both, halves, before, c.judge_and_collect.ensures.length, c.send_all.ensures)
+
+pub judge_and_collect-requires-clause-pieces : goal.judge_and_collect-requires-clause-pieces
+judge_and_collect-requires-clause-pieces g c =
+    let same = ap (λ a. a.pieces) (c.deref.ensures ∙ c.in-Ok.ensures.ok) in
+    omega (arith, same, c.requires.pieces, c.send_all.ensures, c.split_at_mut-woken.ensures.front_len)

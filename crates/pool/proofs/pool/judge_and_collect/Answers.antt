@@ -1,4 +1,4 @@
-use Rattle.std.proofs.Common.{◌≡◌, ℕ, ◌-◌, ◌<◌, ◌++◌, length, subst, arith}
+use Rattle.std.proofs.Common.{◌≡◌, ◌∙◌, ℕ, ◌-◌, ◌<◌, ◌++◌, length, subst, arith}
 use Rattle.pieces.specs.Pieces.{places_of, nodes_of}
 use Rattle.pool.specs.inside.Speaking.{AreSaid}
 use Rattle.pieces.proofs.Cutting.{all_pieces, back_pieces, begins_first}
@@ -25,3 +25,6 @@ collect-requires-clause-pieces g c =
     let places : length c.split_at_mut-here.result.1.now ≡ n - places_of n p 0 1 =
     omega (arith, c.split_at_mut-here.ensures.back_len, c.begin-at.ensures.place, begins_first n p some, c.requires.places) in
     rw (many, places) (back_pieces n p 0 p 1 n (omega (arith, c.requires.pieces, c.requires.some)) (all_pieces n p some (omega (arith, c.requires.pieces, c.requires.few))))
+
+pub returns-clause-stays : goal.returns-clause-stays
+returns-clause-stays g c = c.collect.ensures.stays ∙ c.judge_said.ensures.stays
