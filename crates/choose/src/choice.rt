@@ -84,6 +84,8 @@ fn choose_among<R: Rules>(
     ensures chosen { IfOk result (Choice (R.answers rules.old) (map shown rows.now) pod.now) }
     ensures stays { rules.new ≡ rules.old }
 {
-    let verdicts = verdicts_of(alloc, rows, pod, rules)?;
+    let Ok(verdicts) = verdicts_of(alloc, rows, pod, rules) else {
+        return Err(NoMemory);
+    };
     Ok(decide(rows, verdicts.as_slice()))
 }

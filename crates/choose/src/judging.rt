@@ -196,7 +196,9 @@ pub fn verdicts_of<R: Rules>(
     ensures stays { rules.new ≡ rules.old }
 {
     let mut verdicts = Vec::new(alloc);
-    verdicts.resize(rows.len(), UNJUDGED)?;
+    let Ok(()) = verdicts.resize(rows.len(), UNJUDGED) else {
+        return Err(AllocError);
+    };
     judge(rows, pod, rules, verdicts.as_mut_slice());
     Ok(verdicts)
 }

@@ -26,11 +26,15 @@ loop-place-preserved g c =
     let good : c.in-Good.score ≤ 100 = c.in-Good.ensures.within in
     let within : c.weight.result * c.in-Good.score ≤ 1000 = product_within _ _ c.weight.ensures.most good in
     record {
-      stays = search rules;
-      last = search rules;
-      within = omega arith;
-      few = search rules;
+      stays = c.score.ensures.stays ∙ c.loop-place.invariant.stays;
+      last = c.loop-place.invariant.last;
+      within = omega (arith, c.loop-place-test.true);
+      few = c.loop-place.invariant.few;
       small = rw (c.from.ensures, c.from-in-Good.ensures) (omega (arith, within));
       places = search rules;
       before = rw (c.from.ensures, c.from-in-Good.ensures) (good_before_more _ _ _ _ _ _ _ (omega (arith, c.loop-place.invariant.few)) c.loop-place.invariant.before weighs said);
     }
+
+-- no score changes the rules
+pub returns-in-Errs-clause-stays : goal.returns-in-Errs-clause-stays
+returns-in-Errs-clause-stays g c = c.score.ensures.stays ∙ c.loop-place.invariant.stays

@@ -1,4 +1,4 @@
-use Rattle.std.proofs.Common.{◌<◌, length, rules, arith, subst}
+use Rattle.std.proofs.Common.{◌<◌, ◌∙◌, length, rules, refl, arith, subst}
 use Rattle.desk.specs.Shown.{shown}
 use Rattle.choose.specs.Verdict.{HasRuling, asked}
 use Rattle.choose.proofs.Verdicts.{all_zip_set}
@@ -11,9 +11,9 @@ loop-at-preserved g c =
     let is : HasRuling (asked c.args.filters_alone (g.R.Rules.answers c.args.rules.now)) c.args.pod.now (shown c.index-rows-at.result) c.ruling_of.result =
     subst (λ r. HasRuling (asked c.args.filters_alone (g.R.Rules.answers r)) c.args.pod.now (shown c.index-rows-at.result) c.ruling_of.result) c.loop-at.invariant.stays c.ruling_of.ensures.is in
     record {
-      last = search rules;
+      last = refl;
       places = search rules;
-      stays = search rules;
-      of_pod = search rules;
+      stays = c.ruling_of.ensures.stays ∙ c.loop-at.invariant.stays;
+      of_pod = c.ruling_of.ensures.pod;
       are = all_zip_set _ shown c.args.rows.now c.loop-at.verdicts c.loop-at.at c.index-rows-at.result c.ruling_of.result below room c.index-rows-at.is c.loop-at.invariant.are is;
     }
