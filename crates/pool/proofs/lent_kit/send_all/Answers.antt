@@ -1,4 +1,4 @@
-use Rattle.std.proofs.Common.{◌+◌, ◌≤◌, length, arith, rules, sym, subst}
+use Rattle.std.proofs.Common.{◌+◌, ◌≤◌, length, arith, sym, subst}
 use Rattle.pieces.specs.Pieces.{ArePieces}
 use Rattle.pool.proofs.lent_kit.send_all.Goals as goal
 
@@ -10,6 +10,3 @@ places_of-places-requires-clause-there g c = subst (λ a. c.loop-at.at + 1 + 1 �
 
 pub send-requires : goal.send-requires
 send-requires g c = subst (λ a. ArePieces (length a.snapshot) a.pieces (c.loop-at.at + 1) 1 c.places_of-places.result) c.deref.ensures c.places_of-places.ensures
-
-pub offset_bounds-helpers-at : goal.offset_bounds-helpers-at
-offset_bounds-helpers-at g c = search rules
