@@ -60,7 +60,9 @@ impl<J: Naming> LoneDesk<J> {
         ensures opening { IfOk result (λ desk. desk ≡ machine.opening limits) }
         ensures faults { IfErr result (λ e. (e ≡ RunFault.NoMemory) ⊎ (e ≡ RunFault.NoPlace)) }
     {
-        let mut desk = Desk::<J>::for_passes(blank, alloc, keys, limits, 1)?;
+        let Ok(mut desk) = Desk::<J>::for_passes(blank, alloc, keys, limits, 1) else {
+            return Err(RunFault::NoMemory);
+        };
         match desk.pass() {
             Ok(pass) => Ok(LoneDesk { desk, pass }),
             Err(_) => {

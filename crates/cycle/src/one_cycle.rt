@@ -81,7 +81,9 @@ fn fail<J: Naming, T: Wait>(
     ensures err { OnErr result (pass.new ≡ pass.old) }
 {
     let uid = uid.copied();
-    desk.apply(rt, pass, Step::Fail { uid, how })?;
+    let Ok(_) = desk.apply(rt, pass, Step::Fail { uid, how }) else {
+        return Err(NoMemory);
+    };
     Ok(())
 }
 
@@ -187,7 +189,9 @@ fn decide<J: Naming, T: Wait + Threads + Sync, D: Decider>(
     ensures looked { OnErr result (MayLook desk.now pass.old pass.new) }
     ensures kits { D.kits decider.new ≡ D.kits decider.old }
 {
-    let snapshot = desk.look_for(pass, pod.request)?;
+    let Ok(snapshot) = desk.look_for(pass, pod.request) else {
+        return Err(NoMemory);
+    };
     decider.decide(rt, snapshot, pod, explains)
 }
 
