@@ -169,7 +169,10 @@ impl LineReader {
         prove!(waits.is_empty());
         self.start = 0;
         self.end = 0;
-        self.end = source.read(self.buffer.as_mut_slice())?;
+        let Ok(end) = source.read(self.buffer.as_mut_slice()) else {
+            return Err(DeviceFailed);
+        };
+        self.end = end;
         Ok(())
     }
 
@@ -183,12 +186,16 @@ impl LineReader {
         let piece = &self.buffer[self.start..self.end];
         match newline_at(piece) {
             Some(at) => {
-                keep(most, line, &piece[..at])?;
+                let Ok(()) = keep(most, line, &piece[..at]) else {
+                    return Err(AllocError);
+                };
                 self.start += at + 1;
                 Ok(true)
             }
             None => {
-                keep(most, line, piece)?;
+                let Ok(()) = keep(most, line, piece) else {
+                    return Err(AllocError);
+                };
                 self.start = self.end;
                 Ok(false)
             }

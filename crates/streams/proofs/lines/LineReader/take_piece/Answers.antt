@@ -2,8 +2,8 @@ use Rattle.std.proofs.Common.{◌≡◌, ◌<◌, ◌++◌, length, rules, take,
 use Rattle.streams.proofs.Pieces.{range-cut}
 use Rattle.streams.proofs.lines.LineReader.take_piece.Goals as goal
 
-pub returns-in_ok-keep-in-Some : goal.returns-in_ok-keep-in-Some
-returns-in_ok-keep-in-Some c =
+pub returns-in-Ok : goal.returns-in-Ok
+returns-in-Ok c =
     let inside = c.self.inside in
     let piece = slice_range inside.buffer.items inside.start inside.end in
     let within : c.in-Some.at < length piece = search rules in
