@@ -2,8 +2,8 @@
 ghost use Rattle.std.specs.Prelude.{◌≡◌};
 ghost use Rattle.plugin.specs.Kit.{ready_parts};
 
+use crate::instances::Instances;
 use crate::kept::Kept;
-use crate::kit::Kit;
 use crate::shown::Shown;
 use quant::{Pod, Res, SharedNode};
 use rules::{FilterVerdict, Rules, ScoreVerdict};
@@ -15,7 +15,7 @@ use std::marker::Model;
 /// of the kit its plugins alone, each with the image from which its calls begin: what an instance's
 /// store is between two calls, no call sees. Nor do they see what is kept of what plugins said.
 pub struct KitRules {
-    kit: Kit,
+    kit: Instances,
     kept: Kept,
     // How often a rule was asked, from 2^64 on from 0 again.
     asked: u64,
@@ -49,8 +49,8 @@ impl Drop for KitRules {
 }
 
 impl KitRules {
-    /// The rules of this kit.
-    pub fn new(kit: Kit) -> KitRules
+    /// The rules of a kit of these instances.
+    pub(crate) fn new(kit: Instances) -> KitRules
         ensures { result ≡ ready_parts kit }
     {
         let kept = Kept::new(kit.alloc());

@@ -8,7 +8,7 @@ ghost use Rattle.plugin.specs.Kit.{IsKitOf};
 ghost use Rattle.plugin.specs.Refused.{WhyNoKits};
 
 use crate::fault::{AddFault, NoKits};
-use crate::kit::Kit;
+use crate::instances::Instances;
 use crate::kit_rules::KitRules;
 use crate::plugins::{Plugin, Plugins};
 use std::alloc::Global;
@@ -46,7 +46,7 @@ pub fn kits_of(alloc: Global, site: &[Configuration], many: usize) -> Result<Vec
     let plugins = plugins_of(alloc, site)?;
     let mut kits = Vec::new(alloc);
     while kits.len() < many {
-        let kit = match Kit::new(alloc, &plugins) {
+        let kit = match Instances::new(alloc, &plugins) {
             Ok(kit) => kit,
             Err(fault) => return Err(NoKits::NotReady(fault)),
         };

@@ -12,6 +12,7 @@
 mod answers;
 mod asked;
 mod fault;
+mod instances;
 mod kept;
 mod kit;
 mod kit_rules;

@@ -9,8 +9,8 @@ ghost use Rattle.plugin.specs.inside.Shown.{IsOfNode};
 
 use crate::answers::{Answers, Heard, Known, no_answers, nothing};
 use crate::asked::{Asked, Reach};
+use crate::instances::Instances;
 use crate::kept::{Kept, Spot};
-use crate::kit::Kit;
 use quant::{Pod, Res, SharedNode};
 use rules::{FilterVerdict, ScoreVerdict};
 use whost::{Record, pod_record3};
@@ -85,7 +85,7 @@ impl Shown {
     /// known of it, or what it says now.
     pub fn ask_filter(
         &self,
-        kit: &mut Kit,
+        kit: &mut Instances,
         kept: &mut Kept,
         place: usize,
         pod: &Pod,
@@ -117,7 +117,7 @@ impl Shown {
     /// What the score of a kit's plugin says of the pod and the node that were shown, likewise.
     pub fn ask_score(
         &self,
-        kit: &mut Kit,
+        kit: &mut Instances,
         kept: &mut Kept,
         place: usize,
         pod: &Pod,

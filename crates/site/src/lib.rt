@@ -10,9 +10,5 @@ mod site_run;
 mod with_kits;
 
 pub use laws::{decided_by_calls, one_site_output};
-pub use site_modules::{
-    Files, Folder, Input, Output, Unaccepted, Verdict, accepted_in, check_file, check_module,
-    modules_in, named_in, site_kits, tell_version, verdict_on,
-};
 pub use site_run::{serve, serve_plan};
 pub use with_kits::run_with_kits;

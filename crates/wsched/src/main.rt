@@ -24,7 +24,7 @@ mod program;
 
 use command::arguments;
 use program::answer;
-use site::{Folder, Input, Output};
+use site_modules::{Folder, Input, Output};
 use std::hash::RandomState;
 use std::process::ExitCode;
 

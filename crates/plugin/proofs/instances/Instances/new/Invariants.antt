@@ -2,7 +2,7 @@ use Rattle.std.proofs.Common.{take, All}
 use Rattle.std.specs.List.{AllZip}
 use Rattle.plugin.specs.Plugins.{IsWeight}
 use Rattle.plugin.specs.Kit.{ready_parts, IsAtImage, IsReadyOf}
-use Rattle.plugin.proofs.kit.Kit.new.Given as goal
+use Rattle.plugin.proofs.instances.Instances.new.Given as goal
 
 abbrev pub invariant-loop-place : goal.invariant-loop-place
 invariant-loop-place l = record {

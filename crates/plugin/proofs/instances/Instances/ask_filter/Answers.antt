@@ -4,7 +4,7 @@ use Rattle.whost.specs.Handed.{told_of}
 use Rattle.plugin.specs.Kit.{InstanceState, FilterSays}
 use Rattle.plugin.specs.inside.Asked.{Reaches}
 use Rattle.plugin.proofs.KitLemmas.{only_its_store, so_there}
-use Rattle.plugin.proofs.kit.Kit.ask_filter.Goals as goal
+use Rattle.plugin.proofs.instances.Instances.ask_filter.Goals as goal
 
 pub returns-clause-says : goal.returns-clause-says
 returns-clause-says c =

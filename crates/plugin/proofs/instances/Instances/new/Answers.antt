@@ -2,7 +2,7 @@ use Rattle.std.proofs.Common.{◌<◌, length, arith}
 use Rattle.std.proofs.lemmas.Result.{err_from_is_err_and}
 use Rattle.plugin.specs.Kit.{ready_parts}
 use Rattle.plugin.proofs.MakingLemmas.{ready_more, weights_more, images_more, no_kit, all_instances, some_plugin}
-use Rattle.plugin.proofs.kit.Kit.new.Goals as goal
+use Rattle.plugin.proofs.instances.Instances.new.Goals as goal
 
 pub loop-place-preserved : goal.loop-place-preserved
 loop-place-preserved c =

@@ -1,6 +1,6 @@
 use Rattle.plugin.specs.Kit.{InstanceState, FilterSays}
 use Rattle.plugin.proofs.KitLemmas.{only_its_store, so_there}
-use Rattle.plugin.proofs.kit.Kit.filter.Goals as goal
+use Rattle.plugin.proofs.instances.Instances.filter.Goals as goal
 
 pub returns-clause-says : goal.returns-clause-says
 returns-clause-says c =
