@@ -13,6 +13,5 @@ mod live_run;
 mod with_kits;
 
 pub use laws::{live_counts_once, one_live_output};
-pub use live_line::{Field, Meaning, Meant, meaning_of};
 pub use live_run::{MAX_KNOWN, serve_live};
 pub use with_kits::live_with_kits;

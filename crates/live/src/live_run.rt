@@ -6,7 +6,7 @@ ghost use Rattle.streams.specs.Greatest.{limits};
 ghost use Rattle.streams.specs.inside.Device.{WritesSome};
 ghost use Rattle.streams.specs.declared.fault.RunFault.TheVariants as run_fault;
 ghost use Rattle.choose.specs.Kits.{rules_of};
-ghost use Rattle.objects.specs.Site.{site_of};
+ghost use Rattle.live_line.specs.Scope.{site_of};
 ghost use Rattle.desk.specs.Machine.{reply, snapshot};
 ghost use Rattle.desk.specs.declared.step.Step.TheVariants.{Count};
 ghost use Rattle.live_desk.specs.State.{steps, to_place};
@@ -25,8 +25,8 @@ use desk::{Blank, Limits, Naming, NoMemory};
 use fault_line::{Fault, report};
 use ledger::Answer;
 use live_desk::LiveDesk;
-use live_line::{Meaning, Meant, meaning_of};
-use objects::{MAX_OBJECT, Site};
+use live_line::{Meaning, Meant, Scope, meaning_of};
+use objects::MAX_OBJECT;
 use output_lines::NamedRule;
 use quant::{Name, SharedPod};
 use std::alloc::Global;
@@ -57,7 +57,7 @@ pub fn serve_live<T: Wait + Threads + Sync, D: Decider, R: Source, W: Sink, E: S
     rt: &T,
     alloc: Global,
     keys: RandomState,
-    site: &Site<'_>,
+    site: &Scope<'_>,
     named: &[NamedRule],
     decider: &mut D,
     source: &mut R,
@@ -95,7 +95,7 @@ fn live_lines<J: Naming, T: Wait + Threads + Sync, D: Decider, R: Source, W: Sin
     alloc: Global,
     keys: RandomState,
     greatest: Limits,
-    site: &Site<'_>,
+    site: &Scope<'_>,
     named: &[NamedRule],
     decider: &mut D,
     source: &mut R,
@@ -123,7 +123,7 @@ fn live_lines<J: Naming, T: Wait + Threads + Sync, D: Decider, R: Source, W: Sin
 fn lines_with_room<J: Naming, T: Wait + Threads + Sync, D: Decider, R: Source, W: Sink>(
     rt: &T,
     alloc: Global,
-    site: &Site<'_>,
+    site: &Scope<'_>,
     named: &[NamedRule],
     decider: &mut D,
     live: &mut LiveDesk<J>,
@@ -167,7 +167,7 @@ fn lines_with_room<J: Naming, T: Wait + Threads + Sync, D: Decider, R: Source, W
 fn answer_lines<J: Naming, T: Wait + Threads + Sync, D: Decider, R: Source, W: Sink>(
     rt: &T,
     alloc: Global,
-    site: &Site<'_>,
+    site: &Scope<'_>,
     named: &[NamedRule],
     decider: &mut D,
     live: &mut LiveDesk<J>,
@@ -227,7 +227,7 @@ fn flush_if<W: Sink>(due: bool, waits: &mut Vec<u8>, out: &mut W) -> Result<(), 
 fn answer_line<J: Naming, T: Wait + Threads + Sync, D: Decider>(
     rt: &T,
     alloc: Global,
-    site: &Site<'_>,
+    site: &Scope<'_>,
     named: &[NamedRule],
     decider: &mut D,
     live: &mut LiveDesk<J>,
@@ -252,7 +252,7 @@ fn answer_line<J: Naming, T: Wait + Threads + Sync, D: Decider>(
 fn answer_to<J: Naming, T: Wait + Threads + Sync, D: Decider>(
     rt: &T,
     alloc: Global,
-    site: &Site<'_>,
+    site: &Scope<'_>,
     named: &[NamedRule],
     decider: &mut D,
     live: &mut LiveDesk<J>,
@@ -274,7 +274,7 @@ fn answer_to<J: Naming, T: Wait + Threads + Sync, D: Decider>(
 fn answer_meant<J: Naming, T: Wait + Threads + Sync, D: Decider>(
     rt: &T,
     alloc: Global,
-    site: &Site<'_>,
+    site: &Scope<'_>,
     named: &[NamedRule],
     decider: &mut D,
     live: &mut LiveDesk<J>,

@@ -5,11 +5,11 @@ ghost use Rattle.choose.specs.Kits.{JudgeAlike, rules_of};
 ghost use Rattle.pool.specs.Speaking.{SpeaksFor};
 ghost use Rattle.streams.specs.Device.{use_of};
 ghost use Rattle.live.specs.Live.{IsLive, manner};
-ghost use Rattle.objects.specs.Site.{site_of};
+ghost use Rattle.live_line.specs.Scope.{site_of};
 
 use crate::live_run::serve_live;
 use fault_line::{Fault, report};
-use objects::Site;
+use live_line::Scope;
 use output_lines::NamedRule;
 use pool::{Blank, MAX_KITS, NoGate, Pool, Site as Fleet};
 use rules::Rules;
@@ -32,7 +32,7 @@ fn live_in<
     rt: &T,
     alloc: Global,
     keys: RandomState,
-    site: &Site<'_>,
+    site: &Scope<'_>,
     named: &[NamedRule],
     blank: Blank,
     first: K,
@@ -78,7 +78,7 @@ pub fn live_with_kits<
     rt: &T,
     alloc: Global,
     keys: RandomState,
-    site: &Site<'_>,
+    site: &Scope<'_>,
     named: &[NamedRule],
     kits: Vec<K>,
     source: &mut R,

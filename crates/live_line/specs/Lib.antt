@@ -1,4 +1,5 @@
 pub mod Field
 pub mod Order
 pub mod Meaning
+pub mod Scope
 pub mod inside

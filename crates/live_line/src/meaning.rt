@@ -2,6 +2,7 @@
 ghost use Rattle.std.specs.Prelude.{◌≡◌, [], IfOk, Ok};
 ghost use Rattle.serde_json.specs.View.{view};
 ghost use Rattle.objects.specs.Site.{site_of};
+ghost use Rattle.live_line.specs.Scope.{site_of as within};
 ghost use Rattle.quant.specs.declared.limits.TheConstants.{LATEST_MOMENT};
 ghost use Rattle.live_line.specs.Meaning.{behind, is_order, of_aside, of_explain, of_moment, of_object, of_op, of_order, of_told, of_value, of_word, meaning, order_reasons, reasons, reasons_of, reasons_told};
 ghost use Rattle.live_line.specs.Order.{moment_at, text_at, told_in, uid_at};
@@ -9,6 +10,7 @@ ghost use Rattle.live_line.specs.declared.field.Field.TheVariants as fields;
 
 use crate::field::Field;
 use crate::order::{moment_at, op_of, order, told_in, uid_at};
+use crate::scope::Scope;
 use ledger::Event;
 use objects::{Heard, Hearing, Site, hear, hear_none, value_in};
 use quant::{Event as Told, Moment, Name, SharedPod, Version};
@@ -226,12 +228,17 @@ fn of_explain(json: &Value) -> Meaning
 ///
 /// Errors: `AllocError`, which may come in place of any answer.
 #[tactic(auto, unfolding(crate::specs::Meaning::meaning, crate::specs::Meaning::reasons))]
-pub fn meaning_of(alloc: Global, line: &[u8], site: &Site<'_>) -> Result<Meant, AllocError>
-    ensures meaning { IfOk result (λ meant. meant.meaning ≡ meaning (site_of site.now) line.now) }
-    ensures reasons { IfOk result (λ meant. meant.reasons.items ≡ reasons (site_of site.now) line.now) }
+pub fn meaning_of(alloc: Global, line: &[u8], scope: &Scope<'_>) -> Result<Meant, AllocError>
+    ensures meaning { IfOk result (λ meant. meant.meaning ≡ meaning (within scope.now) line.now) }
+    ensures reasons { IfOk result (λ meant. meant.reasons.items ≡ reasons (within scope.now) line.now) }
 {
+    let site = Site {
+        scheduler: scope.scheduler,
+        labels: scope.labels,
+        beside: None,
+    };
     match value_in(alloc, line)? {
-        Ok(json) => of_value(alloc, &json, site),
+        Ok(json) => of_value(alloc, &json, &site),
         Err(why) => of_hearing(alloc, hear_none(alloc, why)?),
     }
 }

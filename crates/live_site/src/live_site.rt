@@ -9,7 +9,7 @@ ghost use Rattle.live_site.specs.Live.{IsPlannedLive, IsSiteLive, read_for};
 use command::LivePlan;
 use fault_line::{Fault, report};
 use live::live_with_kits;
-use objects::Site;
+use live_line::Scope;
 use site_modules::{Files, modules_in, named_in, site_kits};
 use std::alloc::Global;
 use std::hash::RandomState;
@@ -47,10 +47,9 @@ fn serve_site<T: Wait + Threads + Copy + Send + Sync + 'static, R: Source, W: Si
     let Ok(named) = named_in(alloc, specs) else {
         return report(Fault::Run(RunFault::NoMemory), err);
     };
-    let site = Site {
+    let site = Scope {
         scheduler: plan.scheduler,
         labels: plan.labels,
-        beside: None,
     };
     live_with_kits(
         rt,

@@ -2,7 +2,7 @@ use Rattle.std.proofs.Common.{◌∙◌, Ok, Err, OnErr, refl, subst, ap, arith}
 use Rattle.std.specs.Io.KnownBytes.{prepend_known}
 use Rattle.std.proofs.lemmas.Result.{on_err_weaker}
 use Rattle.choose.specs.Kits.{rules_of}
-use Rattle.objects.specs.Site.{site_of}
+use Rattle.live_line.specs.Scope.{site_of}
 use Rattle.live.specs.Live.{manner}
 use Rattle.live.proofs.Going.{going_answered, going_partly, going_start}
 use Rattle.live.proofs.Lived.{at_end, front_flushed, front_now, not_read, on_ok_both, unread, unwritten, wanting_room, whole_now}

@@ -1,7 +1,7 @@
 use Rattle.std.proofs.Common.{◌≡◌, ◌+◌, length}
 use Rattle.std.specs.Io.KnownBytes.{prepend_known}
 use Rattle.choose.specs.Kits.{rules_of}
-use Rattle.objects.specs.Site.{site_of}
+use Rattle.live_line.specs.Scope.{site_of}
 use Rattle.live.specs.Live.{manner}
 use Rattle.live.proofs.Going.{IsGoing}
 use Rattle.live.proofs.live_run.answer_lines.Given as goal

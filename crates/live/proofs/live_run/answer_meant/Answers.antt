@@ -1,6 +1,6 @@
 use Rattle.std.proofs.Common.{refl, ap}
 use Rattle.choose.specs.Kits.{rules_of}
-use Rattle.objects.specs.Site.{site_of}
+use Rattle.live_line.specs.Scope.{site_of}
 use Rattle.live_line.specs.declared.meaning.Meaning.TheVariants as means
 use Rattle.live_desk.specs.Telling.{PutAside}
 use Rattle.live.specs.Answer.{aside_text, nothing_text, faulty_text, taken_text, told_text, tick_text, turn_text}

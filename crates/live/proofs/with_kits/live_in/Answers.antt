@@ -1,7 +1,7 @@
 use Rattle.std.proofs.Common.{refl, subst}
 use Rattle.streams.specs.Device.{use_of}
 use Rattle.choose.specs.Kits.{rules_of}
-use Rattle.objects.specs.Site.{site_of}
+use Rattle.live_line.specs.Scope.{site_of}
 use Rattle.live.specs.Live.{IsLive, manner}
 use Rattle.live.proofs.Lived.{nothing_lived}
 use Rattle.live.proofs.with_kits.live_in.Goals as goal

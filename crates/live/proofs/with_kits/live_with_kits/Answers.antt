@@ -2,7 +2,7 @@ use Rattle.std.proofs.Common.{◌≡◌, ◌<◌, List, [], ◌∷◌, length, g
 use Rattle.rules.specs.RuleSet.{RuleSet}
 use Rattle.streams.specs.Device.{use_of}
 use Rattle.choose.specs.Kits.{rules_of}
-use Rattle.objects.specs.Site.{site_of}
+use Rattle.live_line.specs.Scope.{site_of}
 use Rattle.live.specs.Live.{IsLive, manner}
 use Rattle.pool.proofs.Kits.{first_speaks}
 use Rattle.live.proofs.with_kits.live_with_kits.Goals as goal
