@@ -5,8 +5,8 @@ ghost use Rattle.desk.specs.inside.Shared.{head_of};
 ghost use Rattle.pieces.specs.Pieces.{begins};
 
 use crate::cut::begin;
-use desk::{Adds, HistoryRule, Nothing, Snapshot};
-use logbook::{Offer, Plain, Seen, Start, Word};
+use desk::{HistoryRule, Nothing, Snapshot};
+use logbook::{Offer, Plain, Play, Seen, Start, Word};
 use quant::SharedPod;
 use std::marker::{Brand, Model, PhantomData};
 
@@ -28,7 +28,16 @@ impl Drop for Asked {
     }
 }
 
-/// A step adds what is asked.
+/// A step that adds what is asked. (The desk has one like it for its calls. With that one, whoever
+/// names a history of a pool would name all that lies under a desk too.)
+pub struct Adds;
+
+impl Play<Asked, u64> for Adds {
+    ghost use Rattle.desk.specs.inside.Shared.{IsAdded};
+
+    ghost then = { IsAdded };
+}
+
 impl Plain<Asked, Asked, u64> for Adds {
     ghost use Rattle.std.specs.Prelude.{None};
 
