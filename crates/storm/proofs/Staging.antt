@@ -10,7 +10,7 @@ use Rattle.crew.specs.declared.worker.Worker.{Worker}
 use Rattle.crew.specs.Made.{BeginsWith, IsInformed}
 use Rattle.crew.specs.Cycles.{OneCycle, HasCycled, EndsIdle}
 use Rattle.crew.specs.Crew.{ArePassesOf, Each, HasMet, HaveMet}
-use Rattle.storm.specs.inside.Stages.{HasFed, HasScheduled, HasFinished, IsIdle}
+use Rattle.storm.specs.inside.Stages.{HasFed, HasScheduled, HasFinished, HaveWorked, IsIdle}
 use Rattle.crew.proofs.Going.{begins_trans, makes_told, informed_later, later_trans}
 use Rattle.crew.proofs.Cycling.{cycle_later, cycled_told, cycled_both}
 
@@ -48,7 +48,7 @@ module _ {J : Type 0} (desk : Desk) (fed : List Step) where
   }
 
   -- `ws1` is what they left, told of under another name
-  pub all_fed_met : (p q : Pass) (ws ws1 ws' ws'' : List (Worker J (Unit {0}))) → HaveMet desk p ws' q ws'' → ws1 ≡ ws' → Each (HasFed fed) ws ws1 → Each (HasFed fed) ws ws''
+  all_fed_met : (p q : Pass) (ws ws1 ws' ws'' : List (Worker J (Unit {0}))) → HaveMet desk p ws' q ws'' → ws1 ≡ ws' → Each (HasFed fed) ws ws1 → Each (HasFed fed) ws ws''
   all_fed_met p q ws ws1 ws' ws'' met same told1 =
       let told : Each (HasFed fed) ws ws' = subst (λ (x : List (Worker J (Unit {0}))). Each (HasFed fed) ws x) same told1 in
       (met.each.0 ∙ told.0, λ i d lt. fed_met p.seen q.seen (slice_index_or ws i d) (slice_index_or ws' i d) (slice_index_or ws'' i d) (told.1 i d lt) (met.each.1 i d (subst (λ n. i < n) (sym told.0) lt)))
@@ -126,10 +126,26 @@ module _ {J D Kit : Type 0} (answers : Kit → RuleSet) (kits : D → List Kit) 
       scheduled_at (suc i) d lt = subst (λ (x : Worker J D). HasScheduled answers kits desk (slice_index_or cs (suc i) d) x) (sym (get_or-set_other cs' 0 (suc i) w'' d (λ e. omega (arith, e))))
           (each.1 (suc i) d lt)
 
-      pub all_scheduled : Each (HasScheduled answers kits desk) cs (slice_set cs' 0 w'')
+      all_scheduled : Each (HasScheduled answers kits desk) cs (slice_set cs' 0 w'')
       all_scheduled = (length-set cs' 0 w'' ∙ each.0, scheduled_at)
 
-      pub first_idle : (fs1 : List (Worker J (Unit {0}))) → fs1 ≡ fs → 0 < length fs1 → (d : Worker J D) → (slice_index_or (slice_set cs' 0 w'') 0 d).failed ≡ false
+      first_idle : (fs1 : List (Worker J (Unit {0}))) → fs1 ≡ fs → 0 < length fs1 → (d : Worker J D) → (slice_index_or (slice_set cs' 0 w'') 0 d).failed ≡ false
           → IsIdle answers kits desk fs' (slice_index_or cs 0 d) (slice_index_or (slice_set cs' 0 w'') 0 d)
       first_idle fs1 as_many fed d fine = subst (λ (x : Worker J D). IsIdle answers kits desk fs' (slice_index_or cs 0 d) x) (sym (here d))
           (ended_idle (slice_index_or cs 0 d) (slice_index_or cs' 0 d) w'' fs fs' (each.1 0 d some) (then_at d) (subst (λ (x : List (Worker J (Unit {0}))). 0 < length x) as_many fed) (sym (ap (λ (x : Worker J D). x.failed) (here d)) ∙ fine))
+
+      -- `fs1` is what the feeders left, told of under another name
+      pub have_worked : (steps : List Step) (fs0 fs1 : List (Worker J (Unit {0}))) → fs1 ≡ fs → 0 < length fs0 → Each (HasFed steps) fs0 fs1
+          → HaveWorked answers kits desk steps fs0 fs' cs (slice_set cs' 0 w'')
+      have_worked steps fs0 fs1 as_many fed told = record {
+        fed = all_fed_met desk steps (slice_index_or cs' 0 r).pass then.told fs0 fs1 fs fs' then.met as_many told;
+        turned = all_scheduled;
+        idle = first_idle fs1 as_many (subst (λ n. 0 < n) (sym told.0) fed);
+      }
+
+  -- of what feeders and cycle passes left this holds, told of under another name
+  pub left_worked : (steps : List Step) (fs fs1 fs' : List (Worker J (Unit {0}))) (cs cs1 cs' : List (Worker J D)) → fs1 ≡ fs' → cs1 ≡ cs'
+      → HaveWorked answers kits desk steps fs fs1 cs cs1 → HaveWorked answers kits desk steps fs fs' cs cs'
+  left_worked steps fs fs1 fs' cs cs1 cs' same same' worked =
+      subst (λ (x : List (Worker J D)). HaveWorked answers kits desk steps fs fs' cs x) same'
+      (subst (λ (x : List (Worker J (Unit {0}))). HaveWorked answers kits desk steps fs x cs cs1) same worked)

@@ -1,12 +1,11 @@
 //! Who works beside whom in a storm, and who ends when.
-ghost use Rattle.std.specs.Prelude.{◌≡◌, ◌<◌, length, false, IsSome, slice_index_or};
+ghost use Rattle.std.specs.Prelude.{◌<◌, length, IsSome};
 ghost use Rattle.std.specs.List.{All};
 ghost use denote.Param.Send.{IsSend, IsSync};
 ghost use Rattle.desk.specs.Caller.{IsTimely};
 ghost use Rattle.desk.specs.Shared.{Pass as Seeing, IsPassOf};
-ghost use Rattle.crew.specs.declared.worker.Worker.{Worker as Working};
 ghost use Rattle.crew.specs.Crew.{ArePassesOf, Each};
-ghost use Rattle.storm.specs.inside.Stages.{HasFed, HasReported, HasScheduled, IsIdle, HasFinished};
+ghost use Rattle.storm.specs.inside.Stages.{HasFed, HasReported, HasScheduled, HasFinished, HaveWorked};
 
 use binder::Job;
 use choose::Decider;
@@ -129,10 +128,8 @@ fn schedule<
     requires feeders { ArePassesOf stage.now.desk.now feeders.old }
     requires cyclers { ArePassesOf stage.now.desk.now cyclers.old }
     requires timely { All IsTimely stage.now.steps.now }
-    ensures fed { Each (HasFed stage.now.steps.now) feeders.old feeders.new }
-    ensures turned { Each (HasScheduled D.Kit.answers D.kits stage.now.desk.now) cyclers.old cyclers.new }
-    ensures idle { (d : Working J.row.Denot D.row.Denot) → (slice_index_or cyclers.new 0 d).failed ≡ false
-        → IsIdle D.Kit.answers D.kits stage.now.desk.now feeders.new (slice_index_or cyclers.old 0 d) (slice_index_or cyclers.new 0 d) }
+    ensures { HaveWorked D.Kit.answers D.kits stage.now.desk.now stage.now.steps.now feeders.old feeders.new
+        cyclers.old cyclers.new }
 {
     let Some(jobs) = sender.take() else {
         return;
@@ -174,10 +171,8 @@ pub(crate) fn work<
     requires cyclers { ArePassesOf stage.now.desk.now cyclers.old }
     requires reporters { ArePassesOf stage.now.desk.now reporters.old }
     requires timely { All IsTimely stage.now.steps.now }
-    ensures fed { Each (HasFed stage.now.steps.now) feeders.old feeders.new }
-    ensures turned { Each (HasScheduled D.Kit.answers D.kits stage.now.desk.now) cyclers.old cyclers.new }
-    ensures idle { (d : Working J.row.Denot D.row.Denot) → (slice_index_or cyclers.new 0 d).failed ≡ false
-        → IsIdle D.Kit.answers D.kits stage.now.desk.now feeders.new (slice_index_or cyclers.old 0 d) (slice_index_or cyclers.new 0 d) }
+    ensures worked { HaveWorked D.Kit.answers D.kits stage.now.desk.now stage.now.steps.now feeders.old feeders.new
+        cyclers.old cyclers.new }
     ensures reported { Each HasReported reporters.old reporters.new }
 {
     let mut sender = Some(sender);
@@ -190,10 +185,8 @@ pub(crate) fn work<
         requires { IsSync R.row × IsSend J.row × IsSync J.row × IsSend D.row × IsSome sender ×
             (0 < length cyclers.now) × (0 < length feeders.now)
             × ArePassesOf stage.now.desk.now feeders.now × ArePassesOf stage.now.desk.now cyclers.now × All IsTimely stage.now.steps.now }
-        ensures { Each (HasFed stage.entry.now.steps.now) feeders.entry.now feeders.exit.now
-            × Each (HasScheduled D.Kit.answers D.kits stage.entry.now.desk.now) cyclers.entry.now cyclers.exit.now
-            × ((d : Working J.row.Denot D.row.Denot) → (slice_index_or cyclers.exit.now 0 d).failed ≡ false
-            → IsIdle D.Kit.answers D.kits stage.entry.now.desk.now feeders.exit.now (slice_index_or cyclers.entry.now 0 d) (slice_index_or cyclers.exit.now 0 d)) }
+        ensures { HaveWorked D.Kit.answers D.kits stage.entry.now.desk.now stage.entry.now.steps.now
+            feeders.entry.now feeders.exit.now cyclers.entry.now cyclers.exit.now }
     { schedule(stage, rt, &mut sender, feeders, cyclers) };
     join_mut(rt, &mut binding, &mut scheduling);
 }

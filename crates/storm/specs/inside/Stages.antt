@@ -1,5 +1,5 @@
 -- What the workers of a storm have done when all have ended.
-use Rattle.std.specs.Prelude.{◌≡◌, false, List}
+use Rattle.std.specs.Prelude.{◌≡◌, false, List, slice_index_or}
 use Rattle.std.specs.List.{All, AllByRecursion}
 use Rattle.desk.specs.History.{Call, Legal}
 use Rattle.desk.specs.declared.step.Step.{Step}
@@ -8,7 +8,7 @@ use Rattle.rules.specs.RuleSet.{RuleSet}
 use Rattle.choose.specs.Kits.{rules_of}
 use Rattle.crew.specs.declared.worker.Worker.{Worker}
 use Rattle.crew.specs.Made.{BeginsWith, Makes, IsReport}
-use Rattle.crew.specs.Crew.{HaveMet}
+use Rattle.crew.specs.Crew.{Each, HaveMet}
 use Rattle.crew.specs.Cycles.{OneCycle, HasCycled, EndsIdle}
 
 -- a feeder told these steps, if memory was not wanting
@@ -49,3 +49,10 @@ module _ {J D Kit : Type 0} (answers : Kit → RuleSet) (kits : D → List Kit) 
     pub same : kits w'.tool ≡ kits w.tool
     pub before : w'.failed ≡ false → w.failed ≡ false
     pub made : w'.failed ≡ false → (made : List OneCycle) × (last : OneCycle) × EndsIdle (rules_of answers (kits w.tool)) desk told made last w'.pass
+
+  -- feeders told these steps, workers made cycles beside them, and where memory was not wanting, the
+  -- first of these ended with a cycle that found no pod when all feeders had ended
+  pub record HaveWorked (steps : List Step) (feeders feeders' : List (Worker J (Unit {0}))) (cyclers cyclers' : List (Worker J D)) : Type 0 where
+    pub fed : Each (HasFed steps) feeders feeders'
+    pub turned : Each HasScheduled cyclers cyclers'
+    pub idle : (d : Worker J D) → (slice_index_or cyclers' 0 d).failed ≡ false → IsIdle feeders' (slice_index_or cyclers 0 d) (slice_index_or cyclers' 0 d)
