@@ -1,5 +1,5 @@
 -- What is kept of what nodes are worth stays so where one of them changes.
-use Rattle.std.proofs.Common.{◌≡◌, ℕ, ◌+◌, ◌<◌, ◌≤◌, ◌≢◌, true, List, [], ◌∷◌, ◌++◌, get_or, set, length, map, take, sym, ap, subst, ◌∙◌, arith}
+use Rattle.std.proofs.Common.{◌≡◌, ℕ, ◌+◌, ◌<◌, true, List, [], ◌∷◌, ◌++◌, get_or, set, length, map, take, sym, ap, subst, ◌∙◌, arith}
 use Rattle.std.specs.List.{AllWithin}
 use Rattle.std.proofs.lemmas.List.{length-map, map-set, map_push, take_more, get_or-map, get_or-set_same}
 use Rattle.std.proofs.lemmas.List.Elements.{All-set, AllWithin-more}

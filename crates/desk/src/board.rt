@@ -113,7 +113,9 @@ impl Board {
         ensures set { OnOk result (self.new ≡ record self.old { nodes = slice_set self.old.nodes at node.now }) }
         ensures err { OnErr result (self.new ≡ self.old) }
     {
-        let node = node.share()?;
+        let Ok(node) = node.share() else {
+            return Err(AllocError);
+        };
         if at < self.nodes.len() {
             self.nodes[at] = node;
         }
@@ -129,7 +131,9 @@ impl Board {
         }) }
         ensures err { OnErr result (self.new ≡ self.old) }
     {
-        let node = node.share()?;
+        let Ok(node) = node.share() else {
+            return Err(AllocError);
+        };
         if at <= self.nodes.len() && self.nodes.len() < self.room {
             self.nodes.insert(at, node).unwrap();
             self.used.insert(at, used).unwrap();
@@ -207,11 +211,13 @@ impl Board {
         requires { IfSome before (λ rows. map shown rows.items ≡ rows_shown self.now) }
         ensures { IfOk result (λ rows. map shown (arc_value rows).items ≡ rows_shown self.now) }
     {
-        let rows = self.rows_now(before)?;
-        let Ok(shared) = Arc::new(self.alloc, rows) else {
+        let Ok(rows) = self.rows_now(before) else {
             return Err(NoMemory);
         };
-        Ok(shared)
+        match Arc::new(self.alloc, rows) {
+            Ok(shared) => Ok(shared),
+            Err(_) => Err(NoMemory),
+        }
     }
 
     fn rows_now(&self, before: Option<Vec<Row>>) -> Result<Vec<Row>, NoMemory>
@@ -299,7 +305,9 @@ impl Absorb<Order> for Board {
     ghost applied = { board_after };
 
     fn absorb_first(&mut self, order: &Order, _other: &Board) -> Result<(), AllocError> {
-        self.change(&order.change)?;
+        let Ok(()) = self.change(&order.change) else {
+            return Err(AllocError);
+        };
         self.count(order.pass, order.calls, order.prefix.again());
         Ok(())
     }

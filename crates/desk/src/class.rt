@@ -41,7 +41,9 @@ impl Class {
     pub(crate) fn of(alloc: Global, rows: &[Row], request: Request) -> Result<Class, AllocError>
         ensures { IfOk result (IsClass (map shown rows.now)) }
     {
-        let mut worths = Vec::with_capacity(alloc, rows.len())?;
+        let Ok(mut worths) = Vec::with_capacity(alloc, rows.len()) else {
+            return Err(AllocError);
+        };
         let mut all_plain = true;
         for row in rows {
             let Ok(()) = worths.push(worth(row, request)) else {

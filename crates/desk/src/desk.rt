@@ -89,7 +89,9 @@ impl<J: Naming> Desk<J> {
     {
         let (head, nothing) = blank.named::<J>();
         let readers = passes.max(1).min(MAX_PASSES);
-        let held = UnderLock::new(alloc, keys, limits, &nothing, readers)?;
+        let Ok(held) = UnderLock::new(alloc, keys, limits, &nothing, readers) else {
+            return Err(NoMemory);
+        };
         Ok(Desk {
             head,
             nothing,

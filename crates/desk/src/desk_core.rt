@@ -62,7 +62,9 @@ impl Core {
     pub(crate) fn new(alloc: Global, keys: RandomState, limits: Limits) -> Result<Self, NoMemory>
         ensures { IfOk result (λ core. core ≡ new_core limits) }
     {
-        let book = Book::new(alloc, keys, limits)?;
+        let Ok(book) = Book::new(alloc, keys, limits) else {
+            return Err(NoMemory);
+        };
         match Queue::new(alloc, keys, limits.queued) {
             Ok(queue) => Ok(Core {
                 alloc,
@@ -71,10 +73,10 @@ impl Core {
                 clock: Moment(0),
                 calls: [0; MAX_PASSES],
             }),
-            Err(failed) => {
+            Err(_) => {
                 // (dropped by a call, whose proof stands elsewhere)
                 drop(book);
-                Err(NoMemory::from(failed))
+                Err(NoMemory)
             }
         }
     }

@@ -89,7 +89,9 @@ impl Kept {
         ensures kept { AreKept (map shown rows.now) self.new.classes.items }
         ensures sought { IfSome result (IsSought (map shown rows.now)) }
     {
-        let at = self.class_for(rows, request?)?;
+        let Some(at) = self.class_for(rows, request?) else {
+            return None;
+        };
         Some(self.classes[at].sought())
     }
 

@@ -198,10 +198,15 @@ impl<J: Naming> Pass<J> {
             return Err(NoMemory);
         }
         let Before { rows, kept } = rows_again::<J>(self.last.take(), board);
-        let rows = board.show(rows)?;
+        let Ok(rows) = board.show(rows) else {
+            return Err(NoMemory);
+        };
+        let Ok(same) = rows.clone() else {
+            return Err(NoMemory);
+        };
         let mut kept = kept;
         let sought = kept.seek(&rows, request);
-        let shown = Snapshot::new(rows.clone()?, sought);
+        let shown = Snapshot::new(same, sought);
         self.last = Some(Last {
             prefix: board.prefix.again(),
             rows,

@@ -67,7 +67,10 @@ impl Step {
         ensures { IfOk result (λ step. step ≡ self.now) }
     {
         Ok(match self {
-            Step::Event(event) => Step::Event(share_event(event)?),
+            Step::Event(event) => match share_event(event) {
+                Ok(event) => Step::Event(event),
+                Err(AllocError) => return Err(AllocError),
+            },
             Step::Pop => Step::Pop,
             Step::Assume { uid, node } => Step::Assume {
                 uid: uid.copied(),
@@ -95,17 +98,23 @@ fn share_event(event: &Event) -> Result<Event, AllocError>
     ensures { IfOk result (λ shared. shared ≡ event.now) }
 {
     Ok(match event {
-        Event::NodeSet { version, node } => Event::NodeSet {
-            version: *version,
-            node: node.share()?,
+        Event::NodeSet { version, node } => match node.share() {
+            Ok(node) => Event::NodeSet {
+                version: *version,
+                node,
+            },
+            Err(AllocError) => return Err(AllocError),
         },
         Event::NodeGone { version, name } => Event::NodeGone {
             version: *version,
             name: name.copied(),
         },
-        Event::PodPending { version, pod } => Event::PodPending {
-            version: *version,
-            pod: pod.share()?,
+        Event::PodPending { version, pod } => match pod.share() {
+            Ok(pod) => Event::PodPending {
+                version: *version,
+                pod,
+            },
+            Err(AllocError) => return Err(AllocError),
         },
         Event::PodBound {
             version,

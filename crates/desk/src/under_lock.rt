@@ -131,11 +131,13 @@ fn publish_orders<J: Naming, R: Wait>(
 fn new_core(alloc: Global, keys: RandomState, limits: Limits) -> Result<Box<Core>, NoMemory>
     ensures { IfOk result (λ core. core.value ≡ new_core limits) }
 {
-    let core = Core::new(alloc, keys, limits)?;
-    let Ok(core) = Box::new(alloc, core) else {
+    let Ok(core) = Core::new(alloc, keys, limits) else {
         return Err(NoMemory);
     };
-    Ok(core)
+    match Box::new(alloc, core) {
+        Ok(core) => Ok(core),
+        Err(_) => Err(NoMemory),
+    }
 }
 
 // What is published before the first call.
@@ -151,12 +153,16 @@ fn new_writer<J: Naming>(
     ensures shown { IfOk result (λ writer. writer.desk.shown.value ≡ board_of (first_held J.book J.limits)) }
     ensures idle { IfOk result (λ writer. drop writer.behind writer.log.items ≡ []) }
 {
-    let first = Board::new(alloc, limits, nothing)?;
-    let second = Board::new(alloc, limits, nothing)?;
-    let Ok(writer) = Writer::new(alloc, first, second, readers) else {
+    let Ok(first) = Board::new(alloc, limits, nothing) else {
         return Err(NoMemory);
     };
-    Ok(writer)
+    let Ok(second) = Board::new(alloc, limits, nothing) else {
+        return Err(NoMemory);
+    };
+    match Writer::new(alloc, first, second, readers) {
+        Ok(writer) => Ok(writer),
+        Err(_) => Err(NoMemory),
+    }
 }
 
 impl<J: Naming> UnderLock<J> {
@@ -173,8 +179,12 @@ impl<J: Naming> UnderLock<J> {
         requires readers { (0 < readers) × (readers ≤ MAX_PASSES) }
         requires nothing { nothing.now ≡ record { book = J.book; list = [] } }
     {
-        let core = new_core(alloc, keys, limits)?;
-        let writer = new_writer::<J>(alloc, limits, nothing, readers)?;
+        let Ok(core) = new_core(alloc, keys, limits) else {
+            return Err(NoMemory);
+        };
+        let Ok(writer) = new_writer::<J>(alloc, limits, nothing, readers) else {
+            return Err(NoMemory);
+        };
         let mut made = UnderLock {
             core,
             prefix: nothing.again(),
@@ -227,7 +237,9 @@ impl<J: Naming> UnderLock<J> {
         if pass.calls() >= MAX_CALLS {
             return Err(NoMemory);
         }
-        self.make_room()?;
+        let Ok(()) = self.make_room() else {
+            return Err(NoMemory);
+        };
         self.prepare(head, handed, pass, step)
     }
 
@@ -252,8 +264,12 @@ impl<J: Naming> UnderLock<J> {
         if !pass.may_go_on(self.writer.published(), handed) {
             return Err(NoMemory);
         }
-        let pod = self.core.pod_for(step)?;
-        let subject = self.core.subject_of(step)?;
+        let Ok(pod) = self.core.pod_for(step) else {
+            return Err(NoMemory);
+        };
+        let Ok(subject) = self.core.subject_of(step) else {
+            return Err(NoMemory);
+        };
         let next = NextCall {
             desk: &self.core,
             pass: pass.number(),

@@ -190,10 +190,13 @@ impl Core {
 fn subject_of_event(event: &Event) -> Result<Subject, NoMemory>
     ensures { (c : Cluster) → IfOk result (IsSubject c (Step.Event event.now)) }
 {
-    Ok(match event {
-        Event::NodeSet { node, .. } => Subject::Set(node.share()?),
-        Event::NodeGone { name, .. } => Subject::Gone(name.copied()),
-        Event::PodBound { uid, .. } | Event::PodGone { uid, .. } => Subject::Pod(uid.copied()),
-        Event::PodPending { .. } => Subject::Nothing,
-    })
+    match event {
+        Event::NodeSet { node, .. } => match node.share() {
+            Ok(node) => Ok(Subject::Set(node)),
+            Err(_) => Err(NoMemory),
+        },
+        Event::NodeGone { name, .. } => Ok(Subject::Gone(name.copied())),
+        Event::PodBound { uid, .. } | Event::PodGone { uid, .. } => Ok(Subject::Pod(uid.copied())),
+        Event::PodPending { .. } => Ok(Subject::Nothing),
+    }
 }

@@ -9,12 +9,12 @@ pub new-requires-3-clause-rule : goal.new-requires-3-clause-rule
 new-requires-3-clause-rule g c =
     let book = g.J.Naming.book in
     let limits = g.J.Naming.limits in
-    is_board book limits (first_held book limits) c.in_ok-first.first (stands_first book limits)
-    (c.in_ok-first.ensures ∙ (λ i. record { nodes = []; used = []; room = (c.requires.limits i).nodes; calls = replicate MAX_PASSES 0; prefix = c.requires.nothing i }) ∙ first_board book limits)
+    is_board book limits (first_held book limits) c.in-Ok.first (stands_first book limits)
+    (c.in-Ok.ensures ∙ (λ i. record { nodes = []; used = []; room = (c.requires.limits i).nodes; calls = replicate MAX_PASSES 0; prefix = c.requires.nothing i }) ∙ first_board book limits)
 
 -- and that is published
-pub returns-clause-shown : goal.returns-clause-shown
-returns-clause-shown g c =
-    c.in-Ok.ensures.0 ∙ c.in_ok-first.ensures
+pub returns-in-Ok-new-2-clause-shown : goal.returns-in-Ok-new-2-clause-shown
+returns-in-Ok-new-2-clause-shown g c =
+    c.in-Ok-new-2.ensures.0 ∙ c.in-Ok.ensures
     ∙ (λ i. record { nodes = []; used = []; room = (c.requires.limits i).nodes; calls = replicate MAX_PASSES 0; prefix = c.requires.nothing i })
     ∙ first_board g.J.Naming.book g.J.Naming.limits

@@ -8,7 +8,7 @@ pub invariant_of-self : goal.invariant_of-self
 invariant_of-self c = c.self.invariant
 
 pub returns-then-at-len-clause-set : goal.returns-then-at-len-clause-set
-returns-then-at-len-clause-set c = λ t. record (c.self.view_is t) { nodes = set (c.self.view_is t).nodes c.args.at (c.in_ok-node.ensures t) }
+returns-then-at-len-clause-set c = λ t. record (c.self.view_is t) { nodes = set (c.self.view_is t).nodes c.args.at (c.in-Ok.ensures t) }
 
 pub returns-else-at-len-clause-set : goal.returns-else-at-len-clause-set
 returns-else-at-len-clause-set c =

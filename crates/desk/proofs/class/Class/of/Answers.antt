@@ -14,7 +14,7 @@ loop-row-preserved c =
     let row = c.row-item.result in
     let lt : i < length rows = omega (arith, c.loop-row-test.true) in
     record {
-      worths = worths_more c.args.request rows i row lt c.row-item.is c.loop-row.worths.items _ c.worth.result c.loop-row.invariant.worths c.worth.ensures c.in-Ok.ensures.items;
+      worths = worths_more c.args.request rows i row lt c.row-item.is c.loop-row.worths.items _ c.worth.result c.loop-row.invariant.worths c.worth.ensures c.in-Ok-push.ensures.items;
       plain = elim c.if-all_plain.branch [
         | then-all_plain w ↦ λ e. plain_more rows i row lt c.row-item.is (c.loop-row.invariant.plain w.if-all_plain.true) (sym w.is_plain-all_plain.ensures ∙ sym w.all_plain-is ∙ e)
         | else-all_plain w ↦ λ e. absurd (cc (w.if-all_plain.false, w.all_plain-is, e))

@@ -1,5 +1,4 @@
 use Rattle.std.proofs.Common.{◌≡◌, List, Option, map, refl, ap, sym, subst, ◌∙◌}
-use Rattle.std.proofs.lemmas.Result.{IfOk-from_err}
 use Rattle.std.specs.Prelude.{IfSome}
 use Rattle.std.specs.Arc.{arc_value}
 use Rattle.std.specs.Global.{Vec}
@@ -22,7 +21,7 @@ use Rattle.desk.proofs.pass.Pass.look_at.Goals as goal
 -- what is published is shown in the order of the nodes' names
 pub new-shown-requires-clause-order : goal.new-shown-requires-clause-order
 new-shown-requires-clause-order g c =
-    subst AreInOrder (sym (ap (λ (v : Vec Row). map shown v.items) c.in_ok-clone.ensures.cases ∙ c.in_ok-rows.ensures))
+    subst AreInOrder (sym (ap (λ (v : Vec Row). map shown v.items) c.in-Ok-clone.ensures.cases ∙ c.in-Ok.ensures))
     (shown_in_order g.J.Naming.book g.J.Naming.limits c.args.board.now c.requires.stands)
 
 -- the published history's snapshot is shown, and has then been seen
@@ -31,7 +30,7 @@ returns-clause-looked g c =
     let p = c.args.self.now in
     looked_on_board g.J.Naming.book g.J.Naming.limits c.args.board.now c.requires.stands c.args.handed p c.see.new.self c.new-shown.result (c.if-not-may_go_on.ensures refl)
     (c.see.ensures ∙ ap (λ (q : Pass). record q { seen = c.board.inside.prefix.list }) c.self.view_is ∙ ap (λ (y : Board). record p { seen = y.prefix.list }) c.board.view_is)
-    (c.new-shown.ensures ∙ ap (λ (v : Vec Row). map shown v.items) c.in_ok-clone.ensures.cases ∙ c.in_ok-rows.ensures)
+    (c.new-shown.ensures ∙ ap (λ (v : Vec Row). map shown v.items) c.in-Ok-clone.ensures.cases ∙ c.in-Ok.ensures)
 
 -- what is kept for the next look is what was shown
 pub invariant_of-self-2 : goal.invariant_of-self-2
@@ -39,7 +38,7 @@ invariant_of-self-2 g c =
     let prefix : c.again.result ≡ c.args.board.now.prefix = c.again.ensures ∙ ap (λ (y : Board). y.prefix) c.board.view_is in (
       c.self.invariant.0,
       c.self.invariant.1,
-      (just_shown g.J.Naming.book g.J.Naming.limits c.args.board.now c.requires.stands c.again.result (arc_value c.in_ok-rows.rows).items _ prefix c.in_ok-rows.ensures c.no_totals.ensures, subst (λ (l : List Row). AreKept (map shown l) c.seek-sought.new.self.classes.items) (c.deref-2.ensures.value ∙ ap (λ (v : Vec Row). v.items) c.deref.ensures) c.seek-sought.ensures.kept),
+      (just_shown g.J.Naming.book g.J.Naming.limits c.args.board.now c.requires.stands c.again.result (arc_value c.in-Ok.rows).items _ prefix c.in-Ok.ensures c.no_totals.ensures, subst (λ (l : List Row). AreKept (map shown l) c.seek-sought.new.self.classes.items) (c.deref-2.ensures.value ∙ ap (λ (v : Vec Row). v.items) c.deref.ensures) c.seek-sought.ensures.kept),
     )
 
 pub returns-clause-err : goal.returns-clause-err
@@ -71,22 +70,16 @@ show-requires g c = c.rows_again-rows.ensures.rows
 -- what is kept is what the rows are worth
 pub seek-sought-requires : goal.seek-sought-requires
 seek-sought-requires g c =
-    subst (λ (l : List Shown). AreKept l c.rows_again-rows.result.kept.classes.items) (sym (ap (map shown) (c.deref-2.ensures.value ∙ ap (λ (v : Vec Row). v.items) c.deref.ensures) ∙ c.in_ok-rows.ensures))
+    subst (λ (l : List Shown). AreKept l c.rows_again-rows.result.kept.classes.items) (sym (ap (map shown) (c.deref-2.ensures.value ∙ ap (λ (v : Vec Row). v.items) c.deref.ensures) ∙ c.in-Ok.ensures))
     c.rows_again-rows.ensures.kept
 
 pub new-shown-requires-clause-sought : goal.new-shown-requires-clause-sought
 new-shown-requires-clause-sought g c =
-    subst (λ (l : List Row). IfSome c.seek-sought.result (IsSought (map shown l))) (c.deref-2.ensures.value ∙ ap (λ (v : Vec Row). v.items) (c.deref.ensures ∙ sym c.in_ok-clone.ensures.cases)) c.seek-sought.ensures.sought
+    subst (λ (l : List Row). IfSome c.seek-sought.result (IsSought (map shown l))) (c.deref-2.ensures.value ∙ ap (λ (v : Vec Row). v.items) (c.deref.ensures ∙ sym c.in-Ok-clone.ensures.cases)) c.seek-sought.ensures.sought
 
 -- where there is no memory, nothing is kept
 pub invariant_of-self : goal.invariant_of-self
 invariant_of-self g c = (c.self.invariant.0, c.self.invariant.1, rw c.take.ensures.after tt)
 
-pub invariant_of-self-in_err-clone : goal.invariant_of-self-in_err-clone
-invariant_of-self-in_err-clone g c = (c.self.invariant.0, c.self.invariant.1, rw c.take.ensures.after tt)
-
-pub returns-in_err-rows-clause-looked : goal.returns-in_err-rows-clause-looked
-returns-in_err-rows-clause-looked g c = IfOk-from_err c.from_residual.result _ c.from_residual.ensures.0
-
-pub returns-in_err-clone-clause-looked : goal.returns-in_err-clone-clause-looked
-returns-in_err-clone-clause-looked g c = IfOk-from_err c.from_residual-in_err-clone.result _ c.from_residual-in_err-clone.ensures.0
+pub invariant_of-self-in_default-clone : goal.invariant_of-self-in_default-clone
+invariant_of-self-in_default-clone g c = (c.self.invariant.0, c.self.invariant.1, rw c.take.ensures.after tt)

@@ -10,11 +10,11 @@ pub invariant_of-made : goal.invariant_of-made
 invariant_of-made g c =
     let book = g.J.Naming.book in
     let limits = g.J.Naming.limits in
-    let w = c.in_ok-writer.writer in
-    let x : Held = record { desk = c.in_ok-core.core.value; prefix = c.again.result } in
-    let is : x ≡ first_held book limits = λ i. record { desk = (c.in_ok-core.ensures ∙ ap new_core c.requires.limits) i; prefix = (c.again.ensures ∙ c.requires.nothing) i } in
+    let w = c.in-Ok-new_writer.writer in
+    let x : Held = record { desk = c.in-Ok.core.value; prefix = c.again.result } in
+    let is : x ≡ first_held book limits = λ i. record { desk = (c.in-Ok.ensures ∙ ap new_core c.requires.limits) i; prefix = (c.again.ensures ∙ c.requires.nothing) i } in
     record {
       stands = subst (Stands book limits) (sym is) (stands_first book limits);
-      shown = c.in_ok-writer.ensures.shown ∙ ap board_of (sym is);
-      idle = ap (fold board_after w.desk.shown.value) c.in_ok-writer.ensures.idle;
+      shown = c.in-Ok-new_writer.ensures.shown ∙ ap board_of (sym is);
+      idle = ap (fold board_after w.desk.shown.value) c.in-Ok-new_writer.ensures.idle;
     }

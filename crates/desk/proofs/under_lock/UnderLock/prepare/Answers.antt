@@ -41,9 +41,9 @@ returns-clause-prefix g c =
 pub returns-clause-pod : goal.returns-clause-pod
 returns-clause-pod g c =
     let core : c.deref.result.now ≡ c.args.self.now.desk = c.deref.ensures ∙ ap (λ (x : Held). x.desk) c.self.view_is in
-    c.in_ok-pod.ensures.pod ∙ ap (λ (d : Core). handed_by d.state c.args.step.now) core
+    c.in-Ok.ensures.pod ∙ ap (λ (d : Core). handed_by d.state c.args.step.now) core
 
 pub returns-clause-subject : goal.returns-clause-subject
 returns-clause-subject g c =
     let core : c.deref-2.result.now ≡ c.args.self.now.desk = c.deref-2.ensures ∙ ap (λ (x : Held). x.desk) c.self.view_is in
-    subst (λ (d : Core). IsSubject d.state.cluster c.args.step.now c.in_ok-subject.subject) core c.in_ok-subject.ensures
+    subst (λ (d : Core). IsSubject d.state.cluster c.args.step.now c.in-Ok-subject_of.subject) core c.in-Ok-subject_of.ensures
