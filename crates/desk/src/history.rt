@@ -46,7 +46,6 @@ pub struct Head<J: Naming> {
 }
 
 /// A beginning of the history that was seen. Contracts see it as its calls.
-#[derive(Drop)]
 pub struct Prefix {
     calls: u64,
     // How many of them tell of a node.
@@ -67,6 +66,17 @@ impl Model for Prefix {
     ghost view = { λ f. record { book = f.seen.book; list = f.seen.log } };
 
     ghost invariant = { λ f. (f.calls ≡ length f.seen.log) × (f.node_calls ≡ calls_on_nodes f.seen.log) };
+}
+
+// By hand, so that who drops a beginning calls this, and its parts' drops are proved here alone.
+impl Drop for Prefix {
+    fn drop(self) {
+        let Self {
+            calls: _,
+            node_calls: _,
+            seen: _seen,
+        } = self;
+    }
 }
 
 impl Blank {
