@@ -34,10 +34,18 @@ impl Index {
         requires { room ≤ MAX_QUEUED }
         ensures { IfOk result (λ index. IsIndex (replicate room None) index) }
     {
-        let active = Row::new(alloc, room)?;
-        let backoff = Row::new(alloc, room)?;
-        let unschedulable = Row::new(alloc, room)?;
-        let unmarked = Row::new(alloc, room)?;
+        let Ok(active) = Row::new(alloc, room) else {
+            return Err(AllocError);
+        };
+        let Ok(backoff) = Row::new(alloc, room) else {
+            return Err(AllocError);
+        };
+        let Ok(unschedulable) = Row::new(alloc, room) else {
+            return Err(AllocError);
+        };
+        let Ok(unmarked) = Row::new(alloc, room) else {
+            return Err(AllocError);
+        };
         Ok(Index {
             active,
             backoff,

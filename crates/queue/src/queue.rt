@@ -48,8 +48,12 @@ impl Queue {
         requires { limit ≤ MAX_QUEUED }
         ensures { IfOk result (λ queue. queue ≡ no_entries limit) }
     {
-        let pods = NameTable::new(alloc, keys, limit)?;
-        let index = Index::new(alloc, limit)?;
+        let Ok(pods) = NameTable::new(alloc, keys, limit) else {
+            return Err(AllocError);
+        };
+        let Ok(index) = Index::new(alloc, limit) else {
+            return Err(AllocError);
+        };
         Ok(Queue {
             pods,
             index,
@@ -77,8 +81,10 @@ impl Queue {
     pub fn pod_of(&self, uid: &Name) -> Option<&SharedPod>
         ensures { option_copied result ≡ option_map (λ entry. entry.pod) (entry_of self.now uid.now) }
     {
-        let slot = self.pods.get(uid)?;
-        Some(slot.pod())
+        match self.pods.get(uid) {
+            Some(slot) => Some(slot.pod()),
+            None => None,
+        }
     }
 
     /// Whether this pass has popped the pod of this uid and not given it back. `fail` by this pass
@@ -113,8 +119,10 @@ impl Queue {
     pub fn peek(&self) -> Option<&SharedPod>
         ensures { option_copied result ≡ option_map (λ item. item.1.pod) (next_of self.now) }
     {
-        let slot = self.index.first()?;
-        Some(self.pods.value_at(slot).pod())
+        match self.index.first() {
+            Some(slot) => Some(self.pods.value_at(slot).pod()),
+            None => None,
+        }
     }
 
     /// A pod comes. It is active, and came now. `Known` is told before `Full`.
@@ -143,7 +151,9 @@ impl Queue {
         ensures after { self.new ≡ after_pop self.old pass }
     {
         self.compared = 0;
-        let slot = self.index.first()?;
+        let Some(slot) = self.index.first() else {
+            return None;
+        };
         let uid = self.pods.name_at(slot).copied();
         self.compared = change(&mut self.pods, &mut self.index, slot, Change::Pop(pass));
         Some(uid)
@@ -215,7 +225,9 @@ impl Queue {
         ensures after { self.new ≡ after_remove self.old uid.now }
     {
         self.compared = 0;
-        let slot = self.pods.find(uid)?;
+        let Some(slot) = self.pods.find(uid) else {
+            return None;
+        };
         let state = self.pods.value_at(slot).state();
         self.index
             .leave(&self.pods, slot, state, &mut self.compared);

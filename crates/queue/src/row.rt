@@ -8,7 +8,6 @@ use std::marker::Model;
 
 /// Some of the slots 0 to the room, in an order of their own. To ask for a slot's place searches
 /// none.
-#[derive(Drop)]
 pub(crate) struct Row {
     // All slots: first those in the row, in its order, then all others.
     slots: Vec<u32>,
@@ -29,15 +28,30 @@ impl Model for Row {
     ghost invariant = { λ r. IsRow r.slots r.places r.len };
 }
 
+// By hand, so that who drops a row calls this, and its parts' drops are proved here alone.
+impl Drop for Row {
+    fn drop(self) {
+        let Self {
+            slots: _slots,
+            places: _places,
+            len: _,
+        } = self;
+    }
+}
+
 /// The numbers below n, in order.
 fn in_order(alloc: Global, n: usize) -> Result<Vec<u32>, AllocError>
     requires { n ≤ MAX_QUEUED }
     ensures len { IfOk result (λ v. length v.items ≡ n) }
     ensures each { IfOk result (λ v. (k : ℕ) → k < n → at v.items k ≡ k) }
 {
-    let mut row = Vec::with_capacity(alloc, n)?;
+    let Ok(mut row) = Vec::with_capacity(alloc, n) else {
+        return Err(AllocError);
+    };
     for number in 0..n {
-        row.push(number as u32)?;
+        let Ok(()) = row.push(number as u32) else {
+            return Err(AllocError);
+        };
     }
     Ok(row)
 }
@@ -65,8 +79,12 @@ impl Row {
         requires { room ≤ MAX_QUEUED }
         ensures { IfOk result (λ row. row ≡ record { room = room; slots = [] }) }
     {
-        let slots = in_order(alloc, room)?;
-        let places = in_order(alloc, room)?;
+        let Ok(slots) = in_order(alloc, room) else {
+            return Err(AllocError);
+        };
+        let Ok(places) = in_order(alloc, room) else {
+            return Err(AllocError);
+        };
         Ok(Row {
             slots,
             places,

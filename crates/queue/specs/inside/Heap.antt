@@ -4,7 +4,6 @@ use Rattle.std.specs.Ordering.{nat_cmp, is_lt, ordering_then}
 use Rattle.std.specs.Option.{option_cmp}
 use Rattle.std.specs.declared.cmp.Ordering.{Ordering}
 use Rattle.name_table.specs.Slots.{Slots, entry_in}
-use Rattle.queued.specs.declared.state.State.{State}
 use Rattle.queued.specs.Entry.{Entry}
 use Rattle.queued.specs.Change.{moment_of}
 use Rattle.queue.specs.Order.{Item, item_cmp}

@@ -1,12 +1,11 @@
 -- Which slots stand where.
-use Rattle.std.specs.Prelude.{◌≡◌, ◌≢◌, ℕ, ◌+◌, ◌<◌, None, Some, Bool, true, false, ◌≤◌, List, length, Option, option_map, slice_set}
+use Rattle.std.specs.Prelude.{◌≡◌, ◌≢◌, ℕ, ◌<◌, None, Some, Bool, true, false, List, length, Option, option_map, slice_set}
 use Rattle.std.specs.Option.{option_map_or}
 use Rattle.name_table.specs.declared.entry.Entry.{Entry as Named}
 use Rattle.name_table.specs.Slots.{entry_in}
 use Rattle.queued.specs.declared.state.State.{State}
 use Rattle.queued.specs.declared.state.State.TheVariants.{Unschedulable, InFlight}
 use Rattle.queue.specs.declared.index.Index.{Index}
-use Rattle.queued.specs.declared.slot.Change.{Change}
 use Rattle.queued.specs.Entry.{Entry, is_active, is_backoff, is_unschedulable}
 use Rattle.queue.specs.inside.Row.{SlotRow, at, IsIn}
 use Rattle.queue.specs.inside.Heap.{Pods, IsHeap}
