@@ -72,6 +72,16 @@ last_once slots places len s inverse some within is there =
     let one : at slots there.place ≡ at slots (len - 1) = sym (get_or-take (len - 1) slots there.place 0 low) ∙ there.is ∙ is in
     omega (arith, sym (inverse.knows there.place (omega arith)) ∙ ap (at places) one ∙ inverse.knows (len - 1) (omega arith))
 
+-- the front has that slot behind the front before it
+pub popped_front : (xs slots : List ℕ) (len s : ℕ) → take len slots ≡ xs → 0 < len → len ≤ length slots → s ≡ at slots (len - 1) → IsPushed (take (len - 1) slots) xs s
+popped_front xs slots len s is some within last =
+    let short : length (take (len - 1) slots) ≡ len - 1 = length-take-le (len - 1) slots (omega arith) in
+    subst (λ (l : List ℕ). IsPushed (take (len - 1) slots) l s) is record {
+      len = omega (arith, length-take-le len slots within);
+      last = ap (at (take len slots)) short ∙ get_or-take len slots (len - 1) 0 (omega arith) ∙ sym last;
+      others = λ k low. get_or-take len slots k 0 (omega arith) ∙ sym (get_or-take (len - 1) slots k 0 (omega arith));
+    }
+
 -- what was written over a row's parts is a row where it's inverse
 pub row_written : (slots places : Vec ℕ Global) (ws vs : List ℕ) (len : ℕ) → length ws ≡ slots.len → length vs ≡ places.len → IsInverse ws vs → len ≤ slots.len → slots.len ≤ MAX_QUEUED → IsRow (with_items slots ws) (with_items places vs) len
 row_written slots places ws vs len as_many known inverse within few = record {
@@ -123,6 +133,12 @@ without xs ys zs ws s first popped gone second = record {
       first.back t record { place = there.place; within = omega (arith, popped.len, there.within); is = popped.others there.place there.within ∙ there.is };
   gone = λ is. gone (second.back s is);
 }
+
+-- the slot that went is the one at the place, where that and the last one have changed places
+pub popped_slot : (xs ys zs : List ℕ) (place last r s : ℕ) → IsSwapped xs ys place last → IsPushed zs ys r → last + 1 ≡ length xs → at xs place ≡ s → r ≡ s
+popped_slot xs ys zs place last r s swapped popped end is =
+    let last_place : length zs ≡ last = omega (arith, popped.len, swapped.len) in
+    sym popped.last ∙ ap (at ys) last_place ∙ swapped.second ∙ is
 
 -- a row with one more behind it has it besides what it had
 pub with_pushed : (xs ys : List ℕ) (s : ℕ) → IsPushed xs ys s → IsWith xs ys s

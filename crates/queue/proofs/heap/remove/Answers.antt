@@ -1,6 +1,6 @@
-use Rattle.std.proofs.Common.{◌≡◌, ℕ, ◌+◌, ◌-◌, ◌≤◌, List, length, arith, refl, sym, ap, ◌∙◌, subst}
-use Rattle.queue.specs.inside.Row.{at, IsSwapped, IsPushed, IsWithout}
-use Rattle.queue.proofs.Rows.{same_again, same_swapped, without}
+use Rattle.std.proofs.Common.{◌≡◌, ◌+◌, ◌-◌, ◌≤◌, arith, refl, ◌∙◌, subst}
+use Rattle.queue.specs.inside.Row.{IsWithout}
+use Rattle.queue.proofs.Rows.{popped_slot, same_again, same_swapped, without}
 use Rattle.queue.proofs.Heaps.{replaced, all_popped}
 use Rattle.queue.proofs.Powers.{at_most_13, power_alone}
 use Rattle.queue.proofs.heap.remove.Goals as goal
@@ -32,12 +32,6 @@ fall-leaf-requires-clause-there c =
 pub fall-leaf-requires-clause-hole : goal.fall-leaf-requires-clause-hole
 fall-leaf-requires-clause-hole c =
     replaced c.args.pods.now c.args.row.now.slots c.swap.new.self.slots c.pop.new.self.slots c.place_of-place.result (c.len-last.result - 1) c.pop.result (omega arith) c.if-place-last.true c.requires.heap c.swap.ensures.swapped c.pop.ensures.popped
-
--- the slot that went is the one at the place
-popped_slot : (xs ys zs : List ℕ) (place last r s : ℕ) → IsSwapped xs ys place last → IsPushed zs ys r → last + 1 ≡ length xs → at xs place ≡ s → r ≡ s
-popped_slot xs ys zs place last r s swapped popped end is =
-    let last_place : length zs ≡ last = omega (arith, popped.len, swapped.len) in
-    sym popped.last ∙ ap (at ys) last_place ∙ swapped.second ∙ is
 
 pub rise-requires-clause-inside : goal.rise-requires-clause-inside
 rise-requires-clause-inside c = c.fall-leaf.ensures.inside
