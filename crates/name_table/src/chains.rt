@@ -25,9 +25,13 @@ impl Chains {
         ensures homes { IfOk result (λ c. c.links.homes ≡ replicate room buckets) }
         ensures heads { IfOk result (λ c. length c.heads ≡ buckets + 1) }
     {
-        let mut heads = Heads::new(alloc, buckets + 1, room as u32)?;
+        let Ok(mut heads) = Heads::new(alloc, buckets + 1, room as u32) else {
+            return Err(AllocError);
+        };
         heads.set(buckets, 0);
-        let links = Links::new(alloc, room, buckets as u32)?;
+        let Ok(links) = Links::new(alloc, room, buckets as u32) else {
+            return Err(AllocError);
+        };
         Ok(Chains { heads, links })
     }
 

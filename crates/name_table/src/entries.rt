@@ -38,7 +38,9 @@ impl<V: Drop> Entries<V> {
     pub(crate) fn new(alloc: Global, room: usize) -> Result<Self, AllocError>
         ensures { IfOk result (λ e. e ≡ replicate room None) }
     {
-        let written = Vec::with_capacity(alloc, room)?;
+        let Ok(written) = Vec::with_capacity(alloc, room) else {
+            return Err(AllocError);
+        };
         Ok(Entries { written, room })
     }
 

@@ -45,8 +45,12 @@ impl Heads {
         ensures { IfOk result (λ h. h ≡ replicate len end) }
     {
         let count = len / BLOCK + 1;
-        let blocks = Vec::from_elem(alloc, UNWRITTEN, count)?;
-        let written = Vec::with_capacity(alloc, BLOCK * count)?;
+        let Ok(blocks) = Vec::from_elem(alloc, UNWRITTEN, count) else {
+            return Err(AllocError);
+        };
+        let Ok(written) = Vec::with_capacity(alloc, BLOCK * count) else {
+            return Err(AllocError);
+        };
         Ok(Heads {
             blocks,
             written,

@@ -46,7 +46,9 @@ impl Links {
         requires { room ≤ 1000000 }
         ensures { IfOk result (λ s. s ≡ record { nexts = range_with_len 1 room; homes = replicate room free }) }
     {
-        let written = Vec::with_capacity(alloc, room)?;
+        let Ok(written) = Vec::with_capacity(alloc, room) else {
+            return Err(AllocError);
+        };
         Ok(Links {
             written,
             room,

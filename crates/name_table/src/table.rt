@@ -55,8 +55,12 @@ impl<V: Drop> NameTable<V> {
         ensures { IfOk result (λ t. t ≡ replicate room None) }
     {
         let buckets = room.next_power_of_two();
-        let chains = Chains::new(alloc, buckets, room)?;
-        let entries = Entries::new(alloc, room)?;
+        let Ok(chains) = Chains::new(alloc, buckets, room) else {
+            return Err(AllocError);
+        };
+        let Ok(entries) = Entries::new(alloc, room) else {
+            return Err(AllocError);
+        };
         Ok(NameTable {
             keys,
             mask: (buckets - 1) as u64,
@@ -199,8 +203,10 @@ impl<V: Drop> NameTable<V> {
         ensures room { length self.new ≡ length self.old }
         ensures once { NamesOnce self.new }
     {
-        let slot = self.find(name)?;
-        Some(self.remove_at(slot).value)
+        match self.find(name) {
+            Some(slot) => Some(self.remove_at(slot).value),
+            None => None,
+        }
     }
 
     /// The value in a slot, to write.

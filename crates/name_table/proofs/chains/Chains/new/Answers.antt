@@ -11,16 +11,16 @@ use Rattle.name_table.proofs.chains.Chains.new.Goals as goal
 
 pub set-requires : goal.set-requires
 set-requires c =
-    let many : length c.in_ok-heads.heads ≡ c.args.buckets + 1 = ap length c.in_ok-heads.ensures ∙ length-replicate (c.args.buckets + 1) c.args.room in
+    let many : length c.in-Ok.heads ≡ c.args.buckets + 1 = ap length c.in-Ok.ensures ∙ length-replicate (c.args.buckets + 1) c.args.room in
     omega arith
 
 pub returns-clause-homes : goal.returns-clause-homes
-returns-clause-homes c = ap (λ (s : Hung). s.homes) c.in_ok-links.ensures
+returns-clause-homes c = ap (λ (s : Hung). s.homes) c.in-Ok-new.ensures
 
 pub returns-clause-heads : goal.returns-clause-heads
 returns-clause-heads c =
-    ap length c.set.ensures ∙ length-set c.in_ok-heads.heads c.args.buckets 0
-    ∙ ap length c.in_ok-heads.ensures ∙ length-replicate (c.args.buckets + 1) c.args.room
+    ap length c.set.ensures ∙ length-set c.in-Ok.heads c.args.buckets 0
+    ∙ ap length c.in-Ok.ensures ∙ length-replicate (c.args.buckets + 1) c.args.room
 
 pub returns-clause-woven : goal.returns-clause-woven
 returns-clause-woven c =
@@ -30,10 +30,10 @@ returns-clause-woven c =
     let few_n = c.requires.few_slots in
     let ends = replicate (b + 1) n in
     let many : length ends ≡ b + 1 = length-replicate (b + 1) n in
-    let heads : c.set.new.self ≡ set ends b 0 = c.set.ensures ∙ ap (λ hs. set hs b 0) c.in_ok-heads.ensures in
+    let heads : c.set.new.self ≡ set ends b 0 = c.set.ensures ∙ ap (λ hs. set hs b 0) c.in-Ok.ensures in
     let d : Chains = record { heads = set ends b 0; links = record { nexts = range_with_len 1 n; homes = replicate n b } } in
-    let made : Chains = record { heads = c.set.new.self; links = c.in_ok-links.links } in
-    let is : made ≡ d = λ t. record { heads = heads t; links = c.in_ok-links.ensures t } in
+    let made : Chains = record { heads = c.set.new.self; links = c.in-Ok-new.links } in
+    let is : made ≡ d = λ t. record { heads = heads t; links = c.in-Ok-new.ensures t } in
     subst IsWoven (sym is)
     (
     woven_new d n b (omega arith) (omega arith) (length-range_with_len 1 n) (length-set ends b 0 ∙ many) refl

@@ -7,6 +7,6 @@ use Rattle.name_table.proofs.heads.Heads.new.Goals as goal
 pub returns : goal.returns
 returns c =
     let n = c.args.len / 1024 + 1 in
-    let blocks : c.in_ok-blocks.blocks.items ≡ replicate n unwritten = c.in_ok-blocks.ensures.items_if_clones_equal (λ y h. cc) in
-    let written : c.in_ok-written.written.items ≡ [] = c.in_ok-written.ensures.items in
+    let blocks : c.in-Ok.blocks.items ≡ replicate n unwritten = c.in-Ok.ensures.items_if_clones_equal (λ y h. cc) in
+    let written : c.in-Ok-with_capacity.written.items ≡ [] = c.in-Ok-with_capacity.ensures.items in
     (λ t. listed (head_at (blocks t) (written t) c.args.end) c.args.len) ∙ heads_new n c.args.end c.args.len

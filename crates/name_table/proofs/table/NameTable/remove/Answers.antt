@@ -2,5 +2,5 @@
 use Rattle.name_table.proofs.SlotLemmas.{remove_absent}
 use Rattle.name_table.proofs.table.NameTable.remove.Goals as goal
 
-pub returns-in_err-slot-clause-map : goal.returns-in_err-slot-clause-map
-returns-in_err-slot-clause-map g c = remove_absent c.args.self.now c.args.name.now c.in_err-slot.ensures.value
+pub returns-in-None-clause-map : goal.returns-in-None-clause-map
+returns-in-None-clause-map g c = remove_absent c.args.self.now c.args.name.now c.in-None.ensures.value
