@@ -1,5 +1,5 @@
 -- What lists of which what was never written takes no memory are after a write.
-use Rattle.std.proofs.Common.{◌≡◌, ℕ, ◌+◌, ◌-◌, ◌*◌, ◌/◌, ◌%◌, ◌<◌, ◌≤◌, cond, List, [], ◌++◌, length, get_or, set, take, replicate, nat_lt, count_by, refl, sym, ap, ◌∙◌, inl, inr, arith, get_or-set_same, get_or-set_other}
+use Rattle.std.proofs.Common.{◌≡◌, ℕ, zero, suc, ◌+◌, ◌-◌, ◌*◌, ◌/◌, ◌%◌, ◌<◌, ◌≤◌, cond, List, [], ◌++◌, length, get_or, set, take, replicate, nat_lt, count_by, refl, sym, ap, subst, ◌∙◌, inl, inr, arith, get_or-set_same, get_or-set_other}
 use Rattle.std.proofs.lemmas.List.{length-set, length-append, length-replicate, take_all, ext_get_or, get_or_append_left, get_or-append_right, get_or-replicate, get_or_past}
 use Rattle.std.proofs.lemmas.List.FromFn.{length-range_with_len, get_or-range_with_len, length-map-range_with_len, get_or-map-range_with_len}
 use Rattle.std.proofs.lemmas.List.Sums.{sum_by-set, count_by-le-length}
@@ -138,6 +138,22 @@ is_there b = cond {A = ℕ} (nat_lt b unwritten) 1 0
 pub heads_new : (n end len : ℕ) → listed (head_at (replicate n unwritten) [] end) len ≡ replicate len end
 heads_new n end len =
     listed_as (head_at (replicate n unwritten) [] end) len (replicate len end) (length-replicate len end) (λ k lt. sym (get_or-replicate len k end 0 lt))
+
+-- and no block that was written
+none_there : (n : ℕ) → count_by (λ b. nat_lt b unwritten) (replicate n unwritten) ≡ 0
+none_there zero = refl
+none_there (suc n) = none_there n
+
+pub blocks_new : (blocks written : List ℕ) (n : ℕ) → blocks ≡ replicate n unwritten → written ≡ [] → n < unwritten → AreBlocks blocks written
+blocks_new blocks written n is none few =
+    let many : length (replicate n unwritten) ≡ n = length-replicate n unwritten in
+    subst (λ (l : List ℕ). AreBlocks l written) (sym is)
+    (subst (λ (l : List ℕ). AreBlocks (replicate n unwritten) l) (sym none) record {
+      few = omega arith;
+      counted = omega (arith, none_there n);
+      whole = λ i lt there. absurd (omega (arith, get_or-replicate n i unwritten 0 (omega arith)));
+      apart = λ i j lt j_lt there same. absurd (omega (arith, get_or-replicate n i unwritten 0 (omega arith)));
+    })
 
 -- a list that is made longer
 pub longer : (xs : List ℕ) (n len m d : ℕ) → len ≡ length xs → n ≡ len + m → take n xs ++ replicate (n - len) d ≡ xs ++ replicate m d

@@ -63,8 +63,8 @@ impl<V: Drop> Entries<V> {
         ensures { option_copied result ≡ entry_in self.now slot }
     {
         match self.written.get(slot) {
-            Some(Some(entry)) => Some(entry),
-            _ => None,
+            Some(entry) => entry.as_ref(),
+            None => None,
         }
     }
 

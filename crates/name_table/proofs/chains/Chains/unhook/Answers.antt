@@ -12,6 +12,18 @@ use Rattle.name_table.proofs.chains.Chains.unhook.Goals.{then-first-slot, else-f
 abbrev loosened : ℕ → Chains → Chains
 loosened slot s = record { heads = s.heads; links = record { nexts = s.links.nexts; homes = set s.links.homes slot nowhere } }
 
+pub get-first-requires : goal.get-first-requires
+get-first-requires c =
+    let homes = c.args.self.now.links.homes in
+    let home : get_or homes c.args.slot nowhere ≡ c.home-home.result = get_or_default homes c.args.slot nowhere 0 c.requires.a_slot ∙ sym c.home-home.ensures in
+    subst (λ (k : ℕ). k < length c.args.self.now.heads) home c.requires.at_home
+
+pub set-requires : goal.set-requires
+set-requires c =
+    let homes = c.args.self.now.links.homes in
+    let home : get_or homes c.args.slot nowhere ≡ c.home-home.result = get_or_default homes c.args.slot nowhere 0 c.requires.a_slot ∙ sym c.home-home.ensures in
+    subst (λ (k : ℕ). k < length c.args.self.now.heads) home c.requires.at_home
+
 pub returns-clause-woven : goal.returns-clause-woven
 returns-clause-woven c =
     let self = c.args.self.now in

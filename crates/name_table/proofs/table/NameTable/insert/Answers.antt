@@ -1,5 +1,6 @@
 -- The first slot of the last chain is free, and moves to the name's bucket.
-use Rattle.std.proofs.Common.{◌≡◌, ◌+◌, ◌<◌, length, set, None, sym, ap, subst, ◌∙◌, arith}
+use Rattle.std.proofs.Common.{◌≡◌, ◌+◌, ◌<◌, length, set, None, is_some, sym, ap, subst, ◌∙◌, arith}
+use Rattle.std.proofs.lemmas.List.Sums.{count_by-le-length}
 use Rattle.std.specs.FinMap as fin
 use Rattle.name_table.specs.Slots.{Slots, entry_in, map_of, NamesOnce}
 use Rattle.name_table.specs.inside.Buckets.{IsFiled}
@@ -79,3 +80,11 @@ returns-clause-once g c =
     let free = free_head c.self.inside.keys c.self.inside.mask c.self.inside.chains s c.self.inside.len f c.args.self.now c.self.view_is slot c.get-slot.ensures c.requires.room in
     let new : fin.get (map_of s) c.args.name ≡ None = ap (λ (z : Slots _). fin.get (map_of z) c.args.name) c.self.view_is ∙ c.requires.new in
     subst NamesOnce (sym c.put.ensures) (once_insert s slot c.args.name c.args.value free.0 f.once new)
+
+-- there are fewer names than slots
+pub overflow_add-self : goal.overflow_add-self
+overflow_add-self g c =
+    let s = c.self.inside.entries in
+    let f = c.self.invariant in
+    let slots = homes_many c.self.inside.keys c.self.inside.mask c.self.inside.chains s c.self.inside.len f in
+    omega (arith, f.counted, count_by-le-length is_some s, slots, f.woven.as_many, f.woven.few_slots)

@@ -1,13 +1,21 @@
 -- The slot moves to the last chain, and is free.
-use Rattle.std.proofs.Common.{◌≡◌, ◌-◌, ◌<◌, length, Some, IsSome, sym, ap, subst, ◌∙◌}
+use Rattle.std.proofs.Common.{◌≡◌, ℕ, ◌-◌, ◌<◌, length, Some, IsSome, sym, ap, subst, ◌∙◌}
 use Rattle.std.specs.Option.{option_map}
 use Rattle.std.specs.FinMap as fin
 use Rattle.name_table.specs.declared.entry.Entry.{Entry}
 use Rattle.name_table.specs.Slots.{Slots, entry_in, name_in, map_of, NamesOnce}
 use Rattle.name_table.specs.inside.Buckets.{IsFiled}
 use Rattle.name_table.proofs.SlotLemmas.{map_remove, once_remove, some_within}
-use Rattle.name_table.proofs.TableLemmas.{home_chain, filed_remove}
+use Rattle.name_table.proofs.TableLemmas.{home_chain, homes_many, filed_remove}
 use Rattle.name_table.proofs.table.NameTable.remove_at.Goals as goal
+
+pub transfer-requires-clause-a_slot : goal.transfer-requires-clause-a_slot
+transfer-requires-clause-a_slot g c =
+    let s = c.self.inside.entries in
+    let f = c.self.invariant in
+    let slot = c.args.slot in
+    let some : IsSome (entry_in s slot) = subst (λ (z : Slots _). IsSome (entry_in z slot)) (sym c.self.view_is) c.requires in
+    subst (λ (n : ℕ). slot < n) (sym (homes_many c.self.inside.keys c.self.inside.mask c.self.inside.chains s c.self.inside.len f)) (some_within s slot some)
 
 pub transfer-requires-clause-at_home : goal.transfer-requires-clause-at_home
 transfer-requires-clause-at_home g c =
