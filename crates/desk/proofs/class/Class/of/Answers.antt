@@ -1,4 +1,4 @@
-use Rattle.std.proofs.Common.{◌≡◌, ◌<◌, ◌≤◌, length, map, sym, ap, ◌∙◌, arith}
+use Rattle.std.proofs.Common.{◌≡◌, ◌<◌, ◌≤◌, true≢false, length, map, sym, ap, ◌∙◌, arith}
 use Rattle.std.proofs.lemmas.List.{length-map, take_all}
 use Rattle.desk.specs.Shown.{shown}
 use Rattle.desk.specs.Worth.{worth}
@@ -17,7 +17,7 @@ loop-row-preserved c =
       worths = worths_more c.args.request rows i row lt c.row-item.is c.loop-row.worths.items _ c.worth.result c.loop-row.invariant.worths c.worth.ensures c.in-Ok-push.ensures.items;
       plain = elim c.if-all_plain.branch [
         | then-all_plain w ↦ λ e. plain_more rows i row lt c.row-item.is (c.loop-row.invariant.plain w.if-all_plain.true) (sym w.is_plain-all_plain.ensures ∙ sym w.all_plain-is ∙ e)
-        | else-all_plain w ↦ λ e. absurd (cc (w.if-all_plain.false, w.all_plain-is, e))
+        | else-all_plain w ↦ λ e. absurd (true≢false (sym e ∙ w.all_plain-is ∙ w.if-all_plain.false))
       ];
     }
 

@@ -62,3 +62,10 @@ returns-clause-totals g c =
     let changed = subst (λ (d : Core). IsChange d.state.cluster change (after x.desk.state p.number e).cluster) opened (subst (IsChange c.deref_mut.result.now.state.cluster change) new c.take_noted-said.ensures.changed) in
     subst (λ (y : Held). IfSome c.totals-totals.result (λ totals. Writes y.desk.state.cluster totals (after y.desk.state p.number e).cluster)) c.self.view_is
     (writes x.desk.state.cluster (after x.desk.state p.number e).cluster change c.totals-totals.result changed c.totals-totals.ensures)
+
+-- it is what was held, with the call
+pub returns-clause-held : goal.returns-clause-held
+returns-clause-held g c =
+    let inside = c.deref_mut.ensures.value ∙ ap (λ (y : Held). y.desk) c.self.view_is in
+    let desk = c.take_noted-said.ensures.after_is ∙ λ i. with_state (inside i) (after (inside i).state (c.number.ensures i) c.args.step) in
+    λ i. record { desk = desk i; prefix = c.args.prefix }
