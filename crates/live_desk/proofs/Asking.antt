@@ -14,6 +14,7 @@ use Rattle.desk.specs.declared.step.Reply.{Reply}
 use Rattle.desk.specs.declared.step.Reply.TheVariants as replies
 use Rattle.desk.specs.declared.step.Step.TheVariants.{Event as TellsEvent, Forget, Pop}
 use Rattle.cycle.specs.declared.one_cycle.Cycled.{Cycled}
+use Rattle.cycle.specs.declared.one_cycle.Cycled.TheVariants.{Assumed}
 use Rattle.cycle.specs.CycleAlone.{AfterPopAlone, IsCycleAlone}
 use Rattle.ledger.specs.declared.event.Answer.{Answer}
 use Rattle.ledger.specs.declared.event.Answer.TheVariants.{Told, Old, Full, Granted, Shut, NotWaiting, Refused, Read as IsToRead}
@@ -79,6 +80,11 @@ pub turn_by : (rules : RuleSet) (s mid after : Live) (desk : State) (came : Cycl
 turn_by rules s mid after desk came turn may cycle mid_is leads =
     let decided : IsDecided rules s turn after = record { came = came; desk = desk; cycled = cycle; leads = subst (λ x. Leads x came turn after) mid_is leads } in
     subst (λ b. IsTurnIf b rules s turn after) (sym may) decided
+
+-- where no place is assumed, it leads to no more
+pub led_without : (s : Live) (came : Cycled) → ((uid node : Name) → (total : ℕ) → (ticket : Ticket) → came ≢ Assumed uid node total ticket) → Leads s came (turns.Without came) s
+led_without s (Assumed uid node total ticket) other = absurd (other uid node total ticket refl)
+led_without s _ other = (refl, refl)
 
 -- ---- a pod that waits
 

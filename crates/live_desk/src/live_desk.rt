@@ -7,8 +7,8 @@ ghost use Rattle.desk.specs.Machine as machine;
 ghost use Rattle.desk.specs.declared.step.Step.TheVariants.{Count, Tick};
 ghost use Rattle.ledger.specs.State.{opening as ledger_opening};
 ghost use Rattle.ledger.specs.Told.{IsTold};
-ghost use Rattle.live_desk.specs.State.{given_back, node_gone, node_set, numbered, offer, offer_new, opening, pod_bound, pod_gone, steps, ticket_of, to_place, version_of, with_ticket, without};
-ghost use Rattle.live_desk.specs.Telling.{IsPending, IsTaken, bound_of, if_unknown, is_newest, left_out, names_of, put_aside, settled, takes, with_ledger};
+ghost use Rattle.live_desk.specs.State.{given_back, node_gone, numbered, offer, offer_new, opening, pod_bound, pod_gone, steps, to_place, version_of, with_ticket, without};
+ghost use Rattle.live_desk.specs.Telling.{IsPending, IsTaken, bound_of, is_newest, left_out, names_of, put_aside, settled, takes, with_ledger};
 ghost use Rattle.live_desk.specs.inside.Change.{change_of, changed};
 
 use crate::change::{Change, change_of};
@@ -18,7 +18,7 @@ use cycle::LoneDesk;
 use desk::{Blank, Limits, Naming, NoMemory, Reply, Snapshot, Step};
 use ledger::{Answer, Event, Kind, Known, Ledger, Stage};
 use name_table::NameTable;
-use quant::{Event as Watched, Moment, Name, Pod, Request, SharedNode, SharedPod, Ticket, Version};
+use quant::{Event as Watched, Moment, Name, Pod, Request, SharedPod, Ticket, Version};
 use std::alloc::{AllocError, Global};
 use std::hash::RandomState;
 use std::marker::Model;
@@ -141,14 +141,6 @@ impl<J: Naming> LiveDesk<J> {
         Version(self.told)
     }
 
-    // A node is there, with this row.
-    fn set_node<R: Wait>(&mut self, rt: &R, node: SharedNode) -> Result<(), NoMemory>
-        ensures { OnOk result (self.new ≡ node_set self.old node) }
-    {
-        let version = self.next_version();
-        self.step(rt, Step::Event(Watched::NodeSet { version, node }))
-    }
-
     // A node is gone.
     fn drop_node<R: Wait>(&mut self, rt: &R, name: Name) -> Result<(), NoMemory>
         ensures { OnOk result (self.new ≡ node_gone self.old name) }
@@ -248,20 +240,18 @@ impl<J: Naming> LiveDesk<J> {
     fn give_back<R: Wait>(&mut self, rt: &R, uid: Name) -> Result<(), NoMemory>
         ensures { OnOk result (self.new ≡ given_back self.old uid) }
     {
-        let Some(ticket) = self.ticket_of(&uid) else {
+        // What names the desk's choice of its place, where a bind of it was asked for.
+        let ticket = match self.offered.get(&uid) {
+            Some(it) => it.ticket,
+            None => None,
+        };
+        let Some(ticket) = ticket else {
             return self.drop_pod(rt, uid);
         };
         let Ok(()) = self.set_ticket(&uid, None) else {
             return Err(NoMemory);
         };
         self.step(rt, Step::Forget { uid, ticket })
-    }
-
-    // What names the desk's choice of a pod's place, where a bind of it was asked for.
-    fn ticket_of(&self, uid: &Name) -> Option<Ticket>
-        ensures { result ≡ ticket_of (fin.get self.now.offered uid.now) }
-    {
-        self.offered.get(uid)?.ticket
     }
 
     // What names the desk's choice of a pod's place is this now.
@@ -339,9 +329,16 @@ impl<J: Naming> LiveDesk<J> {
         match change {
             Change::Nothing => Ok(()),
             Change::LeftOut(kind) => self.leave_out(rt, kind, names),
-            Change::NodeSet(node) => self.set_node(rt, node),
+            Change::NodeSet(node) => {
+                let version = self.next_version();
+                self.step(rt, Step::Event(Watched::NodeSet { version, node }))
+            }
             Change::NodeGone(name) => self.drop_node(rt, name),
-            Change::Withheld(uid) => self.drop_unknown(rt, uid),
+            // A pod that isn't to be bound goes, unless the ledger knows it still.
+            Change::Withheld(uid) => match self.ledger.known(&uid) {
+                Some(_) => Ok(()),
+                None => self.drop_pod(rt, uid),
+            },
             Change::PodBound(uid, node, request) => self.bind_pod(rt, uid, node, request),
             Change::PodGone(uid) => self.drop_pod(rt, uid),
             Change::Asked(pod, there) => self.count_bound(rt, pod, there),
@@ -363,16 +360,6 @@ impl<J: Naming> LiveDesk<J> {
             };
         }
         Ok(())
-    }
-
-    // A pod isn't to be bound: it goes, unless the ledger knows it still.
-    fn drop_unknown<R: Wait>(&mut self, rt: &R, uid: Name) -> Result<(), NoMemory>
-        ensures { OnOk result (self.new ≡ if_unknown self.old uid (fin.get self.old.ledger.pods uid)) }
-    {
-        if self.ledger.known(&uid).is_some() {
-            return Ok(());
-        }
-        self.drop_pod(rt, uid)
     }
 
     // A bind may be asked for that the desk didn't choose: its pod counts where it may come to

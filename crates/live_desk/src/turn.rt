@@ -3,7 +3,7 @@ ghost use Rattle.std.specs.Prelude.{◌≡◌, IfOk, OnOk};
 ghost use Rattle.desk.specs.Machine.{State};
 ghost use Rattle.choose.specs.Kits.{rules_of};
 ghost use Rattle.cycle.specs.CycleAlone.{IsCycleAlone};
-ghost use Rattle.live_desk.specs.Turns.{IsAsked, IsTurn, Leads, with_desk};
+ghost use Rattle.live_desk.specs.Turns.{IsAsked, IsTurn, with_desk};
 
 use crate::live_desk::LiveDesk;
 use choose::Decider;
@@ -53,16 +53,9 @@ impl<J: Naming> LiveDesk<J> {
         if !self.ledger.is_open() {
             return Ok(Turn::Shut);
         }
-        match self.cycle_alone(rt, decider) {
-            Ok(came) => self.lead(rt, came),
-            Err(NoMemory) => Err(NoMemory),
-        }
-    }
-
-    // What a cycle of the desk leads to.
-    fn lead<R: Wait>(&mut self, rt: &R, came: Cycled) -> Result<Turn, NoMemory>
-        ensures { IfOk result (λ turn. Leads self.old came turn self.new) }
-    {
+        let Ok(came) = self.cycle_alone(rt, decider) else {
+            return Err(NoMemory);
+        };
         match came {
             Cycled::Assumed {
                 uid,
@@ -126,7 +119,9 @@ impl<J: Naming> LiveDesk<J> {
             });
         }
         let pod = uid.copied();
-        self.step(rt, Step::Forget { uid: pod, ticket })?;
-        Ok(Turn::Denied { uid, node, answer })
+        match self.step(rt, Step::Forget { uid: pod, ticket }) {
+            Ok(()) => Ok(Turn::Denied { uid, node, answer }),
+            Err(NoMemory) => Err(NoMemory),
+        }
     }
 }
