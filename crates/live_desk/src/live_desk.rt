@@ -8,7 +8,7 @@ ghost use Rattle.desk.specs.declared.step.Step.TheVariants.{Count, Tick};
 ghost use Rattle.ledger.specs.State.{opening as ledger_opening};
 ghost use Rattle.ledger.specs.Told.{IsTold};
 ghost use Rattle.live_desk.specs.State.{given_back, node_gone, numbered, offer, offer_new, opening, pod_bound, pod_gone, steps, to_place, version_of, with_ticket, without};
-ghost use Rattle.live_desk.specs.Telling.{IsPending, IsTaken, bound_of, is_newest, left_out, names_of, put_aside, settled, takes, with_ledger};
+ghost use Rattle.live_desk.specs.Telling.{IsPending, IsTaken, is_newest, left_out, names_of, put_aside, settled, takes, with_ledger};
 ghost use Rattle.live_desk.specs.inside.Change.{change_of, changed};
 
 use crate::change::{Change, change_of};
@@ -341,7 +341,17 @@ impl<J: Naming> LiveDesk<J> {
             },
             Change::PodBound(uid, node, request) => self.bind_pod(rt, uid, node, request),
             Change::PodGone(uid) => self.drop_pod(rt, uid),
-            Change::Asked(pod, there) => self.count_bound(rt, pod, there),
+            // A bind may be asked for that the desk didn't choose: its pod counts where it may come
+            // to stand.
+            Change::Asked(uid, node) => match self.ledger.known(&uid) {
+                Some(
+                    Known {
+                        stage: Stage::Asked { request, .. },
+                        ..
+                    },
+                ) => self.bind_pod(rt, uid, node, request),
+                _ => Ok(()),
+            },
             Change::Settled(uid, place) => self.settle(rt, uid, place),
         }
     }
@@ -360,22 +370,6 @@ impl<J: Naming> LiveDesk<J> {
             };
         }
         Ok(())
-    }
-
-    // A bind may be asked for that the desk didn't choose: its pod counts where it may come to
-    // stand.
-    fn count_bound<R: Wait>(&mut self, rt: &R, uid: Name, node: Name) -> Result<(), NoMemory>
-        ensures { OnOk result (self.new ≡ bound_of self.old uid node (fin.get self.old.ledger.pods uid)) }
-    {
-        match self.ledger.known(&uid) {
-            Some(
-                Known {
-                    stage: Stage::Asked { request, .. },
-                    ..
-                },
-            ) => self.bind_pod(rt, uid, node, request),
-            _ => Ok(()),
-        }
     }
 
     // A read settled a pod's bind: where it was read to stand, if it stands, it does so at this
