@@ -10,7 +10,7 @@ use Rattle.desk.specs.declared.step.Step.{Step}
 use Rattle.desk.specs.declared.step.Step.TheVariants.{Pop, Assume, Fail}
 use Rattle.desk.specs.declared.step.Reply.{Reply}
 use Rattle.desk.specs.declared.step.Reply.TheVariants as replies
-use Rattle.desk.specs.Machine.{reply, after, snapshot, first_pod, popped, given}
+use Rattle.desk.specs.Machine.{after, snapshot, first_pod, popped, given}
 use Rattle.desk.specs.Shared.{Pass, Desk, IsPassOf, IsApplied, IsLooked}
 use Rattle.desk.specs.Alone.{state_seen, AnswersAlone, LooksAlone}
 use Rattle.desk.specs.Shown.{Shown}

@@ -4,7 +4,7 @@ ghost use Rattle.std.specs.Bool.{IsTrue};
 ghost use Rattle.desk.specs.Shared.{IsApplied, IsPassOf};
 ghost use Rattle.choose.specs.Kits.{rules_of};
 ghost use Rattle.streams.specs.declared.fault.RunFault.TheVariants as faults;
-ghost use Rattle.cycle.specs.Cycle.{IsFailed, EndsWith, IsAssumed, IsChosen, IsDecided, MayLook, IsGivenUp, IsLeft, IsInVain, IsCycle, IsCutShort, AreSeen, DecideCycle};
+ghost use Rattle.cycle.specs.Cycle.{IsFailed, EndsWith, IsAssumed, IsDecided, IsGivenUp, IsLeft, IsInVain, IsCycle, IsCutShort, AreSeen, DecideCycle};
 
 use choose::{Counts, Decider, Decision};
 use desk::{Desk, Naming, NoMemory, Pass, Refusal, Step};
@@ -172,29 +172,6 @@ fn end_with<J: Naming, T: Wait>(
     }
 }
 
-// Looks, and chooses a node for a pod; where that is explained, the decider tells the verdicts.
-fn decide<J: Naming, T: Wait + Threads + Sync, D: Decider>(
-    desk: &Desk<J>,
-    rt: &T,
-    pass: &mut Pass<J>,
-    pod: &SharedPod,
-    decider: &mut D,
-    explains: bool,
-) -> Result<Decision, NoMemory>
-    requires { IsPassOf pass.old desk.now }
-    ensures chosen { IfOk result (λ decision. IsChosen (rules_of D.Kit.answers (D.kits decider.old)) desk.now pass.old
-        pod.now decision pass.new) }
-    ensures verdicts { IsTrue explains → OnOk result (AreSeen (rules_of D.Kit.answers (D.kits decider.old)) desk.now
-        pass.old pod.now (D.last decider.new)) }
-    ensures looked { OnErr result (MayLook desk.now pass.old pass.new) }
-    ensures kits { D.kits decider.new ≡ D.kits decider.old }
-{
-    let Ok(snapshot) = desk.look_for(pass, pod.request) else {
-        return Err(NoMemory);
-    };
-    decider.decide(rt, snapshot, pod, explains)
-}
-
 /// Looks for a place for a pod that the pass popped, and does what is decided of it. Where that is
 /// to be explained, the decider tells the verdicts afterwards.
 ///
@@ -215,7 +192,10 @@ pub(crate) fn place<J: Naming, T: Wait + Threads + Sync, D: Decider>(
     ensures in_vain { IfErr result (λ short. IsInVain desk.now pass.old pod.now.uid short.held pass.new) }
     ensures kits { D.kits decider.new ≡ D.kits decider.old }
 {
-    match decide(desk, rt, pass, pod, decider, explains) {
+    let Ok(snapshot) = desk.look_for(pass, pod.request) else {
+        return Err(give_up(desk, rt, pass, &pod.uid));
+    };
+    match decider.decide(rt, snapshot, pod, explains) {
         Ok(decision) => end_with(desk, rt, pass, &pod.uid, decision),
         Err(NoMemory) => Err(give_up(desk, rt, pass, &pod.uid)),
     }
