@@ -5,7 +5,8 @@ use Rattle.manifest.specs.declared.fault.LineFault.{LineFault}
 use Rattle.manifest.specs.declared.fault.LineFault.TheVariants.{NotJson, BadField, Quantity, OverLimit, NoMemory}
 use Rattle.manifest.specs.Reading.{◌>>=◌, Answers, Fails}
 
-first_fails : {A B : Type 0} (e : LineFault) (r : Result A LineFault) (f : A → Result B LineFault) → Fails e r → Fails e (r >>= f)
+-- what the first reading tells is told of both
+pub first_fails : {A B : Type 0} (e : LineFault) (r : Result A LineFault) (f : A → Result B LineFault) → Fails e r → Fails e (r >>= f)
 first_fails NoMemory r f h = tt
 first_fails NotJson r f h = rw h refl
 first_fails (BadField field) r f h = rw h refl
@@ -27,6 +28,10 @@ ends result e r f is h = hands_on result e (r >>= f) is (first_fails e r f h)
 pub goes_on : {A B : Type 0} (result : Result B LineFault) (r : Result A LineFault) (x : A) (f : A → Result B LineFault) → r ≡ Ok x → Answers result (f x)
     → Answers result (r >>= f)
 goes_on result r x f is h = subst (λ s. Answers result (s >>= f)) (sym is) h
+
+-- also a fault that is told later
+pub fails_later : {A B : Type 0} (e : LineFault) (r : Result A LineFault) (x : A) (f : A → Result B LineFault) → r ≡ Ok x → Fails e (f x) → Fails e (r >>= f)
+fails_later e r x f is h = subst (λ s. Fails e (s >>= f)) (sym is) h
 
 -- which may be known
 pub gives : {A B : Type 0} (r : Result A LineFault) (x : A) (f : A → Result B LineFault) (y : Result B LineFault) → r ≡ Ok x → f x ≡ y → (r >>= f) ≡ y

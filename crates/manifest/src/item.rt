@@ -67,8 +67,10 @@ fn fill_from<T: Item, const N: usize>(
     requires { row.old ≡ [] }
     ensures { Gives (λ _. row.new) result (list least N T.reading field (view value.now)) }
 {
-    let found = items(value, field, least, N)?;
-    fill(row, found, field)
+    match items(value, field, least, N) {
+        Ok(found) => fill(row, found, field),
+        Err(fault) => Err(fault),
+    }
 }
 
 // Puts the items of an array behind those of a row, each read beside those before it.
@@ -84,7 +86,10 @@ fn fill<T: Item, const N: usize>(
         return Err(LineFault::NoMemory);
     }
     for item in found {
-        let next = T::read(item, row.as_slice(), field)?;
+        let next = match T::read(item, row.as_slice(), field) {
+            Ok(next) => next,
+            Err(fault) => return Err(fault),
+        };
         if row.push(next).is_err() {
             return Err(LineFault::NoMemory);
         }

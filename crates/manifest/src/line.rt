@@ -71,8 +71,10 @@ fn read_object(alloc: Global, line: &[u8]) -> Result<Command, LineFault>
     if line.len() > MAX_LINE {
         return Err(LineFault::OverLimit(Field::Op));
     }
-    let value = parse(alloc, line)?;
-    command_of(alloc, &value)
+    match parse(alloc, line) {
+        Ok(value) => command_of(alloc, &value),
+        Err(fault) => Err(fault),
+    }
 }
 
 // The command that an object spells.
@@ -106,10 +108,18 @@ fn node_of(alloc: Global, object: &Value) -> Result<Command, LineFault>
     ensures { Answers result (node_in (view object.now)) }
 {
     let version = version_at(object)?;
-    let name = name_at(object, Field::Name)?;
-    let allocatable = allocatable_of(object)?;
-    let node = node_with(alloc, object, name, allocatable)?;
-    Ok(Command::Event(Event::NodeSet { version, node }))
+    let name = match name_at(object, Field::Name) {
+        Ok(name) => name,
+        Err(fault) => return Err(fault),
+    };
+    let allocatable = match allocatable_of(object) {
+        Ok(allocatable) => allocatable,
+        Err(fault) => return Err(fault),
+    };
+    match node_with(alloc, object, name, allocatable) {
+        Ok(node) => Ok(Command::Event(Event::NodeSet { version, node })),
+        Err(fault) => Err(fault),
+    }
 }
 
 // The node that an object says is gone.
@@ -118,8 +128,10 @@ fn gone_of(object: &Value) -> Result<Command, LineFault>
     ensures { Answers result (gone_in (view object.now)) }
 {
     let version = version_at(object)?;
-    let name = name_at(object, Field::Name)?;
-    Ok(Command::Event(Event::NodeGone { version, name }))
+    match name_at(object, Field::Name) {
+        Ok(name) => Ok(Command::Event(Event::NodeGone { version, name })),
+        Err(fault) => Err(fault),
+    }
 }
 
 // The pod that an object tells of.
@@ -127,8 +139,10 @@ fn gone_of(object: &Value) -> Result<Command, LineFault>
 fn pod_of(alloc: Global, object: &Value) -> Result<Command, LineFault>
     ensures { Answers result (pod_in (view object.now)) }
 {
-    let (version, pod) = row_of(alloc, object)?;
-    Ok(Command::Event(Event::PodPending { version, pod }))
+    match row_of(alloc, object) {
+        Ok((version, pod)) => Ok(Command::Event(Event::PodPending { version, pod })),
+        Err(fault) => Err(fault),
+    }
 }
 
 // What an object asks of the rules.
@@ -137,8 +151,10 @@ fn judge_of(alloc: Global, object: &Value) -> Result<Command, LineFault>
     ensures { Answers result (judge_in (view object.now)) }
 {
     let (_version, pod) = row_of(alloc, object)?;
-    let filters_alone = flag_at(object, Field::Filters)?;
-    Ok(Command::Judge(Question { pod, filters_alone }))
+    match flag_at(object, Field::Filters) {
+        Ok(filters_alone) => Ok(Command::Judge(Question { pod, filters_alone })),
+        Err(fault) => Err(fault),
+    }
 }
 
 // The version and the pod's row of an object.
@@ -146,11 +162,22 @@ fn row_of(alloc: Global, object: &Value) -> Result<(Version, SharedPod), LineFau
     ensures { Answers result (row_in (view object.now)) }
 {
     let version = version_at(object)?;
-    let uid = name_at(object, Field::Uid)?;
-    let priority = signed_at(object, Field::Priority)?;
-    let asked = asked_of(alloc, object)?;
-    let pod = pod_with(alloc, object, uid, priority, asked)?;
-    Ok((version, pod))
+    let uid = match name_at(object, Field::Uid) {
+        Ok(uid) => uid,
+        Err(fault) => return Err(fault),
+    };
+    let priority = match signed_at(object, Field::Priority) {
+        Ok(priority) => priority,
+        Err(fault) => return Err(fault),
+    };
+    let asked = match asked_of(alloc, object) {
+        Ok(asked) => asked,
+        Err(fault) => return Err(fault),
+    };
+    match pod_with(alloc, object, uid, priority, asked) {
+        Ok(pod) => Ok((version, pod)),
+        Err(fault) => Err(fault),
+    }
 }
 
 // The place that an object tells of.
@@ -159,10 +186,22 @@ fn bound_of(object: &Value) -> Result<Command, LineFault>
     ensures { Answers result (bound_in (view object.now)) }
 {
     let version = version_at(object)?;
-    let uid = name_at(object, Field::Uid)?;
-    let node = name_at(object, Field::Node)?;
-    let cpu = cpu_at(object)?;
-    let mem = memory_at(object)?;
+    let uid = match name_at(object, Field::Uid) {
+        Ok(uid) => uid,
+        Err(fault) => return Err(fault),
+    };
+    let node = match name_at(object, Field::Node) {
+        Ok(node) => node,
+        Err(fault) => return Err(fault),
+    };
+    let cpu = match cpu_at(object) {
+        Ok(cpu) => cpu,
+        Err(fault) => return Err(fault),
+    };
+    let mem = match memory_at(object) {
+        Ok(mem) => mem,
+        Err(fault) => return Err(fault),
+    };
     Ok(Command::Event(Event::PodBound {
         version,
         uid,
@@ -177,8 +216,10 @@ fn deleted_of(object: &Value) -> Result<Command, LineFault>
     ensures { Answers result (deleted_in (view object.now)) }
 {
     let version = version_at(object)?;
-    let uid = name_at(object, Field::Uid)?;
-    Ok(Command::Event(Event::PodGone { version, uid }))
+    match name_at(object, Field::Uid) {
+        Ok(uid) => Ok(Command::Event(Event::PodGone { version, uid })),
+        Err(fault) => Err(fault),
+    }
 }
 
 // The moment that an object tells of.
@@ -196,8 +237,10 @@ fn done_of(object: &Value) -> Result<Command, LineFault>
     ensures { Answers result (done_in (view object.now)) }
 {
     let uid = name_at(object, Field::Uid)?;
-    let ticket = ticket_at(object)?;
-    Ok(Command::BindDone { uid, ticket })
+    match ticket_at(object) {
+        Ok(ticket) => Ok(Command::BindDone { uid, ticket }),
+        Err(fault) => Err(fault),
+    }
 }
 
 // The pod that an object says could not be bound.
@@ -206,8 +249,10 @@ fn forget_of(object: &Value) -> Result<Command, LineFault>
     ensures { Answers result (forget_in (view object.now)) }
 {
     let uid = name_at(object, Field::Uid)?;
-    let ticket = ticket_at(object)?;
-    Ok(Command::Forget { uid, ticket })
+    match ticket_at(object) {
+        Ok(ticket) => Ok(Command::Forget { uid, ticket }),
+        Err(fault) => Err(fault),
+    }
 }
 
 // The version of an event.

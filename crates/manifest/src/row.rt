@@ -20,14 +20,22 @@ use std::alloc::Global;
 pub(crate) fn allocatable_of(object: &Value) -> Result<Res, LineFault>
     ensures { Answers result (allocatable_in (view object.now)) }
 {
-    let cpu = cpu_at(object)?;
-    let mem = memory_at(object)?;
-    let pods = natural_at(object, Field::Pods, 0, MAX_PLACED as u64)?;
-    Ok(Res {
-        cpu,
-        mem,
-        pods: pods as u32,
-    })
+    let cpu = match cpu_at(object) {
+        Ok(cpu) => cpu,
+        Err(fault) => return Err(fault),
+    };
+    let mem = match memory_at(object) {
+        Ok(mem) => mem,
+        Err(fault) => return Err(fault),
+    };
+    match natural_at(object, Field::Pods, 0, MAX_PLACED as u64) {
+        Ok(pods) => Ok(Res {
+            cpu,
+            mem,
+            pods: pods as u32,
+        }),
+        Err(fault) => Err(fault),
+    }
 }
 
 // A node's row, of which the fields in front are known.
@@ -46,7 +54,9 @@ pub(crate) fn node_with(
         taints: AtMost::new(alloc),
         unschedulable: false,
     };
-    fill_node(&mut node, object)?;
+    if let Err(fault) = fill_node(&mut node, object) {
+        return Err(fault);
+    }
     match SharedNode::new(alloc, node) {
         Ok(row) => Ok(row),
         Err(_) => Err(LineFault::NoMemory),
@@ -60,10 +70,19 @@ fn fill_node(node: &mut Node, object: &Value) -> Result<(), LineFault>
     requires taints { node.old.taints ≡ [] }
     ensures { Gives (λ _. node.new) result (node_with node.old.name node.old.allocatable (view object.now)) }
 {
-    fill_at_or_leave(&mut node.labels, object, Field::Labels)?;
-    fill_at_or_leave(&mut node.taints, object, Field::Taints)?;
-    node.unschedulable = flag_at(object, Field::Unschedulable)?;
-    Ok(())
+    if let Err(fault) = fill_at_or_leave(&mut node.labels, object, Field::Labels) {
+        return Err(fault);
+    }
+    if let Err(fault) = fill_at_or_leave(&mut node.taints, object, Field::Taints) {
+        return Err(fault);
+    }
+    match flag_at(object, Field::Unschedulable) {
+        Ok(is_unschedulable) => {
+            node.unschedulable = is_unschedulable;
+            Ok(())
+        }
+        Err(fault) => Err(fault),
+    }
 }
 
 // What all containers of a pod ask, or that it is too much, which is told last of a row.
@@ -75,9 +94,13 @@ pub(crate) fn asked_of(
     ensures { Answers result (asked_in (view object.now)) }
 {
     let mut containers: AtMost<Request, MAX_CONTAINERS> = AtMost::new(alloc);
-    fill_at(&mut containers, object, Field::Containers)?;
+    if let Err(fault) = fill_at(&mut containers, object, Field::Containers) {
+        return Err(fault);
+    }
     let mut init: AtMost<Request, MAX_INIT_CONTAINERS> = AtMost::new(alloc);
-    fill_at_or_leave(&mut init, object, Field::Init)?;
+    if let Err(fault) = fill_at_or_leave(&mut init, object, Field::Init) {
+        return Err(fault);
+    }
     Ok(request(containers.as_slice(), init.as_slice()))
 }
 
@@ -98,7 +121,9 @@ pub(crate) fn pod_with(
         labels: AtMost::new(alloc),
         tolerations: AtMost::new(alloc),
     };
-    fill_pod(&mut pod, object, asked)?;
+    if let Err(fault) = fill_pod(&mut pod, object, asked) {
+        return Err(fault);
+    }
     match SharedPod::new(alloc, pod) {
         Ok(row) => Ok(row),
         Err(_) => Err(LineFault::NoMemory),
@@ -116,8 +141,12 @@ fn fill_pod(
     requires tolerations { pod.old.tolerations ≡ [] }
     ensures { Gives (λ _. pod.new) result (pod_with pod.old.uid pod.old.priority asked (view object.now)) }
 {
-    fill_at_or_leave(&mut pod.labels, object, Field::Labels)?;
-    fill_at_or_leave(&mut pod.tolerations, object, Field::Tolerations)?;
+    if let Err(fault) = fill_at_or_leave(&mut pod.labels, object, Field::Labels) {
+        return Err(fault);
+    }
+    if let Err(fault) = fill_at_or_leave(&mut pod.tolerations, object, Field::Tolerations) {
+        return Err(fault);
+    }
     let Ok(request) = asked else {
         return Err(LineFault::Quantity(Field::Containers));
     };
