@@ -24,9 +24,14 @@ impl Item for Request {
         let Some(mem) = part(found, 1) else {
             return Err(LineFault::BadField(field));
         };
-        let cpu = cpu_from(cpu, field)?;
-        let mem = memory_from(mem, field)?;
-        Ok(request_within(cpu, mem))
+        let cpu = match cpu_from(cpu, field) {
+            Ok(cpu) => cpu,
+            Err(fault) => return Err(fault),
+        };
+        match memory_from(mem, field) {
+            Ok(mem) => Ok(request_within(cpu, mem)),
+            Err(fault) => Err(fault),
+        }
     }
 }
 

@@ -15,25 +15,16 @@ impl Item for Label {
 
     #[tactic(auto, unfolding(crate::specs::Rows::label))]
     fn read(item: &Value, before: &[Label], field: Field) -> Result<Label, LineFault> {
-        let Some(found) = parts(item, 2) else {
-            return Err(LineFault::BadField(field));
-        };
-        let Some(key) = part(found, 0) else {
-            return Err(LineFault::BadField(field));
-        };
-        let Some(value) = part(found, 1) else {
-            return Err(LineFault::BadField(field));
-        };
-        let Some(key) = name_from(key) else {
-            return Err(LineFault::BadField(field));
-        };
-        let Some(value) = text_from(value) else {
-            return Err(LineFault::BadField(field));
-        };
-        if has_key(before, &key) {
-            return Err(LineFault::BadField(field));
+        if let Some(found) = parts(item, 2)
+            && let Some(key) = part(found, 0)
+            && let Some(value) = part(found, 1)
+            && let Some(key) = name_from(key)
+            && let Some(value) = text_from(value)
+            && !has_key(before, &key)
+        {
+            return Ok(Label { key, value });
         }
-        Ok(Label { key, value })
+        Err(LineFault::BadField(field))
     }
 }
 
@@ -41,7 +32,10 @@ impl Item for Label {
 pub fn has_key(labels: &[Label], key: &Name) -> bool
     ensures { result ≡ list_any (λ label. bytes_eq label.key key.now) labels.now }
 {
-    labels
-        .iter()
-        .any(|label| label.key.as_bytes() == key.as_bytes())
+    for label in labels {
+        if label.key.as_bytes() == key.as_bytes() {
+            return true;
+        }
+    }
+    false
 }

@@ -16,31 +16,18 @@ impl Item for Taint {
 
     #[tactic(auto, unfolding(crate::specs::Rows::taint))]
     fn read(item: &Value, before: &[Taint], field: Field) -> Result<Taint, LineFault> {
-        let Some(found) = parts(item, 3) else {
-            return Err(LineFault::BadField(field));
-        };
-        let Some(key) = part(found, 0) else {
-            return Err(LineFault::BadField(field));
-        };
-        let Some(value) = part(found, 1) else {
-            return Err(LineFault::BadField(field));
-        };
-        let Some(effect) = part(found, 2) else {
-            return Err(LineFault::BadField(field));
-        };
-        let Some(key) = name_from(key) else {
-            return Err(LineFault::BadField(field));
-        };
-        let Some(value) = text_from(value) else {
-            return Err(LineFault::BadField(field));
-        };
-        let Some(effect) = effect_named(effect) else {
-            return Err(LineFault::BadField(field));
-        };
-        if has_taint(before, &key, effect) {
-            return Err(LineFault::BadField(field));
+        if let Some(found) = parts(item, 3)
+            && let Some(key) = part(found, 0)
+            && let Some(value) = part(found, 1)
+            && let Some(effect) = part(found, 2)
+            && let Some(key) = name_from(key)
+            && let Some(value) = text_from(value)
+            && let Some(effect) = effect_named(effect)
+            && !has_taint(before, &key, effect)
+        {
+            return Ok(Taint { key, value, effect });
         }
-        Ok(Taint { key, value, effect })
+        Err(LineFault::BadField(field))
     }
 }
 
@@ -49,7 +36,12 @@ pub fn has_taint(taints: &[Taint], key: &Name, effect: Effect) -> bool
     ensures { result ≡ list_any
         (λ taint. bytes_eq taint.key key.now && same_effect taint.effect effect) taints.now }
 {
-    taints.iter().any(|taint| taint.key.as_bytes() == key.as_bytes() && taint.effect == effect)
+    for taint in taints {
+        if taint.key.as_bytes() == key.as_bytes() && taint.effect == effect {
+            return true;
+        }
+    }
+    false
 }
 
 /// The effect of this name.

@@ -17,22 +17,15 @@ impl Item for Toleration {
 
     #[tactic(auto, unfolding(crate::specs::Rows::toleration, crate::specs::inside::Row::toleration_of))]
     fn read(item: &Value, _before: &[Toleration], field: Field) -> Result<Toleration, LineFault> {
-        let Some(found) = parts(item, 4) else {
-            return Err(LineFault::BadField(field));
-        };
-        let Some(key) = part(found, 0) else {
-            return Err(LineFault::BadField(field));
-        };
-        let Some(operator) = part(found, 1) else {
-            return Err(LineFault::BadField(field));
-        };
-        let Some(value) = part(found, 2) else {
-            return Err(LineFault::BadField(field));
-        };
-        let Some(effect) = part(found, 3) else {
-            return Err(LineFault::BadField(field));
-        };
-        toleration_of(key, operator, value, effect, field)
+        if let Some(found) = parts(item, 4)
+            && let Some(key) = part(found, 0)
+            && let Some(operator) = part(found, 1)
+            && let Some(value) = part(found, 2)
+            && let Some(effect) = part(found, 3)
+        {
+            return toleration_of(key, operator, value, effect, field);
+        }
+        Err(LineFault::BadField(field))
     }
 }
 
@@ -47,27 +40,20 @@ fn toleration_of(
 ) -> Result<Toleration, LineFault>
     ensures { Answers result (toleration_of field key.now operator.now value.now effect.now) }
 {
-    let Some(key) = text_from(key) else {
-        return Err(LineFault::BadField(field));
-    };
-    let Some(operator) = operator_named(operator) else {
-        return Err(LineFault::BadField(field));
-    };
-    let Some(value) = text_from(value) else {
-        return Err(LineFault::BadField(field));
-    };
-    let Some(effect) = effect_or_none(effect) else {
-        return Err(LineFault::BadField(field));
-    };
-    if !is_lawful(operator, &key, &value) {
-        return Err(LineFault::BadField(field));
+    if let Some(key) = text_from(key)
+        && let Some(operator) = operator_named(operator)
+        && let Some(value) = text_from(value)
+        && let Some(effect) = effect_or_none(effect)
+        && is_lawful(operator, &key, &value)
+    {
+        return Ok(Toleration {
+            key,
+            operator,
+            value,
+            effect,
+        });
     }
-    Ok(Toleration {
-        key,
-        operator,
-        value,
-        effect,
-    })
+    Err(LineFault::BadField(field))
 }
 
 /// Whether there is a key, under `Equal`, or no value, under `Exists`.
@@ -100,5 +86,8 @@ pub fn effect_or_none(name: &str) -> Option<Option<Effect>>
     if name.is_empty() {
         return Some(None);
     }
-    effect_named(name).map(Some)
+    match effect_named(name) {
+        Some(effect) => Some(Some(effect)),
+        None => None,
+    }
 }
