@@ -1,14 +1,14 @@
 -- How a kit is made, plugin by plugin.
 use Rattle.std.proofs.Common.{◌≡◌, ℕ, zero, suc, ◌+◌, ◌<◌, ◌≤◌, List, [], ◌∷◌, ◌++◌, length, take, Option, Some, IfSome, slice_get, All, sym, subst, arith, add-one}
 use Rattle.std.specs.List.{AllZip}
-use Rattle.std.proofs.lemmas.List.{map-append, length-map, length-take}
+use Rattle.std.proofs.lemmas.List.{map-append, length-map, length-take, take_all}
 use Rattle.std.proofs.lemmas.List.Elements.{All-nil, All-cons, All-push}
 use Rattle.std.proofs.lemmas.Slice.Zip.{AllZip-long}
 use Rattle.wmach.proofs.OverBr.{slice_get_some}
 use Rattle.plugin.specs.declared.fault.KitFault.{KitFault}
 use Rattle.plugin.specs.Plugins.{Configured, IsWeight}
 use Rattle.plugin.specs.Refused.{HasImage, WhyNotReady, WhyNoKit}
-use Rattle.plugin.specs.Kit.{Ready, InstanceState, ready_parts, IsAtImage, IsReadyOf}
+use Rattle.plugin.specs.Kit.{Ready, InstanceState, ready_parts, IsAtImage, IsKitOf, IsReadyOf}
 use Rattle.plugin.specs.inside.Kit.{OneMoreReady, AreInstances}
 
 -- one more of each of two lists
@@ -75,3 +75,7 @@ all_instances plugins kit i most zip weights =
 pub some_plugin : (plugins : List Configured) (kit : List InstanceState) (i : ℕ) → AllZip IsReadyOf (take i plugins) (ready_parts kit) → 0 < length kit → 0 < length plugins
 some_plugin plugins kit i zip some =
     omega (arith, some, AllZip-long IsReadyOf (take i plugins) (ready_parts kit) zip, length-map kit (λ (i : InstanceState). i.ready), length-take i plugins)
+
+-- a kit of the first plugins is one of them all, where there are no more
+pub whole_kit : (plugins : List Configured) (kit : List Ready) (i : ℕ) → length plugins ≤ i → AllZip IsReadyOf (take i plugins) kit → IsKitOf plugins kit
+whole_kit plugins kit i past zip = subst (λ (ps : List Configured). AllZip IsReadyOf ps kit) (take_all i plugins past) zip

@@ -74,14 +74,19 @@ impl Instances {
     {
         let mut members = Vec::new(alloc);
         for place in 0..plugins.count() {
-            plugins.make_ready(alloc, place, &mut members)?;
+            match plugins.make_ready(alloc, place, &mut members) {
+                Ok(()) => {}
+                Err(fault) => return Err(fault),
+            }
         }
-        let told = plugins.room_to_tell(alloc)?;
-        Ok(Instances {
-            alloc,
-            members,
-            told,
-        })
+        match plugins.room_to_tell(alloc) {
+            Ok(told) => Ok(Instances {
+                alloc,
+                members,
+                told,
+            }),
+            Err(fault) => Err(fault),
+        }
     }
 
     /// How many plugins there are: at most 16.

@@ -43,7 +43,9 @@ pub fn kits_of(alloc: Global, site: &[Configuration], many: usize) -> Result<Vec
     ensures all { IfOk result (λ kits. All (IsKitOf (configurations_of site.now)) kits.items) }
     ensures refused { IfErr result (WhyNoKits (configurations_of site.now)) }
 {
-    let plugins = plugins_of(alloc, site)?;
+    let Ok(plugins) = plugins_of(alloc, site) else {
+        return Err(NoKits::NoMemory);
+    };
     let mut kits = Vec::new(alloc);
     while kits.len() < many {
         let kit = match Instances::new(alloc, &plugins) {
@@ -65,7 +67,9 @@ fn plugins_of(alloc: Global, site: &[Configuration]) -> Result<Plugins, NoKits>
 {
     let mut plugins = Plugins::new(alloc);
     for place in 0..site.len() {
-        put(&site[place], &mut plugins)?;
+        let Ok(()) = put(&site[place], &mut plugins) else {
+            return Err(NoKits::NoMemory);
+        };
     }
     Ok(plugins)
 }

@@ -107,17 +107,19 @@ impl Member {
         let Ok(score) = Said::new(alloc) else {
             return Err(InstanceFault::NoMemory);
         };
-        let instance = Instance::new(alloc, checked, fuel)?;
-        Ok(Member {
-            weight,
-            fuel,
-            spent: Spent::nothing(),
-            instance,
-            filter,
-            score,
-            filter_habit: Habit::new(),
-            score_habit: Habit::new(),
-        })
+        match Instance::new(alloc, checked, fuel) {
+            Ok(instance) => Ok(Member {
+                weight,
+                fuel,
+                spent: Spent::nothing(),
+                instance,
+                filter,
+                score,
+                filter_habit: Habit::new(),
+                score_habit: Habit::new(),
+            }),
+            Err(fault) => Err(fault),
+        }
     }
 
     /// How much its score counts.

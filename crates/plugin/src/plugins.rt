@@ -212,7 +212,11 @@ fn made(alloc: Global, entry: &Entry, members: &mut Vec<Member>) -> Result<(), I
     let Ok(checked) = entry.checked.clone() else {
         return Err(InstanceFault::NoMemory);
     };
-    let member = Member::new(alloc, entry.weight, entry.fuel, checked)?;
-    members.push_reserved(member);
-    Ok(())
+    match Member::new(alloc, entry.weight, entry.fuel, checked) {
+        Ok(member) => {
+            members.push_reserved(member);
+            Ok(())
+        }
+        Err(fault) => Err(fault),
+    }
 }

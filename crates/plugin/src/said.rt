@@ -25,10 +25,19 @@ impl<V: Copy> Said<V> {
     pub fn new(alloc: Global) -> Result<Said<V>, AllocError>
         ensures { IfOk result (λ s. s.said ≡ None) }
     {
+        let Ok(first) = Vec::with_capacity(alloc, RECORD_SIZE) else {
+            return Err(AllocError);
+        };
+        let Ok(second) = Vec::with_capacity(alloc, RECORD_SIZE) else {
+            return Err(AllocError);
+        };
+        let Ok(third) = Vec::with_capacity(alloc, RECORD_SIZE) else {
+            return Err(AllocError);
+        };
         Ok(Said {
-            first: Vec::with_capacity(alloc, RECORD_SIZE)?,
-            second: Vec::with_capacity(alloc, RECORD_SIZE)?,
-            third: Vec::with_capacity(alloc, RECORD_SIZE)?,
+            first,
+            second,
+            third,
             said: None,
             wait: 0,
         })
@@ -41,17 +50,16 @@ impl<V: Copy> Said<V> {
         ensures second { IfSome result (λ v. self.now.second.items ≡ records.now.pod.second) }
         ensures third { IfSome result (λ v. self.now.third.items ≡ records.now.pod.third) }
     {
-        let said = self.said?;
-        if self.first.as_slice() != records.pod().as_bytes() {
+        let Some(said) = self.said else {
             return None;
+        };
+        if self.first.as_slice() == records.pod().as_bytes()
+            && self.second.as_slice() == records.pod2().as_bytes()
+            && self.third.as_slice() == records.pod3().as_bytes()
+        {
+            return Some(said);
         }
-        if self.second.as_slice() != records.pod2().as_bytes() {
-            return None;
-        }
-        if self.third.as_slice() != records.pod3().as_bytes() {
-            return None;
-        }
-        Some(said)
+        None
     }
 
     /// Whether the plugin is to be asked with a node this time.
