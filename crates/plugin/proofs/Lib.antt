@@ -8,3 +8,4 @@ pub mod KeptLemmas
 pub mod AskedLemmas
 pub mod TellingLemmas
 pub mod SiteLemmas
+pub mod StayLemmas

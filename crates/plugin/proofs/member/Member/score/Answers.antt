@@ -3,6 +3,7 @@ use Rattle.wbin.specs.Syntax.{module_of}
 use Rattle.wmach.specs.Call.{called_function}
 use Rattle.wmach.specs.declared.export.Export.TheVariants as export
 use Rattle.plugin.proofs.KitLemmas.{nothing_called, ends_of_call}
+use Rattle.plugin.proofs.StayLemmas.{called_stays, sound_stays}
 use Rattle.plugin.proofs.member.Member.score.Goals as goal
 
 pub returns-then-not-has-clause-says : goal.returns-then-not-has-clause-says
@@ -12,3 +13,10 @@ returns-then-not-has-clause-says c =
 pub returns-clause-says : goal.returns-clause-says
 returns-clause-says c =
     rw (sym c.self.view_is) (inr (c.call-outcome.result, ends_of_call c.self.inside.weight c.self.inside.fuel c.self.inside.instance c.call-outcome.new.self export.Score c.args.records.now c.call-outcome.result c.call-outcome.ensures.calls, c.score_verdict.ensures.value))
+
+pub invariant_of-self : goal.invariant_of-self
+invariant_of-self c = sound_stays c.self.inside c.count.new.self c.call-outcome.new.self c.call-outcome.ensures.stays c.self.invariant
+
+pub returns-clause-stays : goal.returns-clause-stays
+returns-clause-stays c =
+    called_stays c.args.self.now c.self.inside.weight c.self.inside.fuel c.self.inside.instance c.call-outcome.new.self c.self.view_is c.call-outcome.ensures.stays

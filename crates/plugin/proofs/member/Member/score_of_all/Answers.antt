@@ -3,6 +3,7 @@ use Rattle.plugin.specs.Kit.{Ready, InstanceState, ScoreSays}
 use Rattle.plugin.specs.inside.Said.{SaidOfAll}
 use Rattle.plugin.specs.inside.Member.{ready_of}
 use Rattle.plugin.proofs.SaidLemmas.{said_of_each, noted_of_all, of_each_node, noted_within}
+use Rattle.plugin.proofs.StayLemmas.{seen_stays, stays}
 use Rattle.plugin.proofs.member.Member.score_of_all.Goals as goal
 
 pub returns-in-Some-clause-says : goal.returns-in-Some-clause-says
@@ -25,3 +26,10 @@ invariant_of-self-3 c =
 pub returns-clause-says : goal.returns-clause-says
 returns-clause-says c =
     rw (sym c.self.view_is) (of_each_node (ScoreSays (ready_of c.self.inside)) c.score_shown-said.result c.args.records.now c.score_shown-said.ensures.says)
+
+pub returns-clause-stays : goal.returns-clause-stays
+returns-clause-stays c =
+    seen_stays c.args.self.now c.score_shown-said.new.self _ c.self-2.view_is (stays c.args.self.now _ c.score_shown-said.new.self c.self.view_is c.score_shown-said.ensures.stays)
+
+pub returns-then-waits-clause-stays : goal.returns-then-waits-clause-stays
+returns-then-waits-clause-stays c = ap (λ (i : InstanceState). record i { store = c.self.inside.instance.store }) c.self.view_is
