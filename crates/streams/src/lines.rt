@@ -120,11 +120,16 @@ impl LineReader {
         line.clear();
         let mut begun = false;
         'pieces: loop {
-            if !self.has_more(source, waits)? {
+            let Ok(more) = self.has_more(source, waits) else {
+                return Err(RunFault::Read);
+            };
+            if !more {
                 return Ok(begun);
             }
             begun = true;
-            let ended = self.take_piece(most, line)?;
+            let Ok(ended) = self.take_piece(most, line) else {
+                return Err(RunFault::NoMemory);
+            };
             if ended {
                 return Ok(true);
             }
