@@ -63,11 +63,13 @@ impl<J: Naming> Session<J> {
         ensures opening { IfOk result (λ session. session ≡ opening) }
         ensures faults { IfErr result (λ e. (e ≡ RunFault.NoMemory) ⊎ (e ≡ RunFault.NoPlace)) }
     {
-        let desk = LoneDesk::<J>::new(rt, blank, alloc, keys, greatest)?;
-        Ok(Session {
-            desk,
-            text: TextBuilder::new(alloc),
-        })
+        match LoneDesk::<J>::new(rt, blank, alloc, keys, greatest) {
+            Ok(desk) => Ok(Session {
+                desk,
+                text: TextBuilder::new(alloc),
+            }),
+            Err(fault) => Err(fault),
+        }
     }
 
     /// Does what a command asks for, and adds the answer to the output, whole or not at all. The
@@ -93,7 +95,9 @@ impl<J: Naming> Session<J> {
     {
         let Session { desk, text } = self;
         text.clear();
-        fill(rt, named, explains, decider, desk, command, text)?;
+        let Ok(()) = fill(rt, named, explains, decider, desk, command, text) else {
+            return Err(NoMemory);
+        };
         hand_out(text, out)
     }
 
@@ -109,8 +113,12 @@ fn hand_out(text: &TextBuilder, out: &mut Vec<u8>) -> Result<(), NoMemory>
     ensures whole { OnOk result ((told : List ℕ) × Holds text.now told × (out.new.items ≡ out.old.items ++ told)) }
     ensures kept { OnErr result (out.new.items ≡ out.old.items) }
 {
-    let whole = text.whole()?;
-    out.extend_from_slice(whole)?;
+    let Ok(whole) = text.whole() else {
+        return Err(NoMemory);
+    };
+    let Ok(()) = out.extend_from_slice(whole) else {
+        return Err(NoMemory);
+    };
     Ok(())
 }
 
@@ -160,7 +168,9 @@ fn do_step<J: Naming, R: Wait>(
     ensures text { OnOk result (Adds text.old text.new (text_of desk.old step)) }
     ensures lines { OnOk result (AreLines false (text_of desk.old step)) }
 {
-    let reply = desk.apply(rt, step)?;
+    let Ok(reply) = desk.apply(rt, step) else {
+        return Err(NoMemory);
+    };
     push_reply(text, reply);
     Ok(())
 }
@@ -176,8 +186,12 @@ fn dump<J: Naming, R: Wait>(
     ensures text { OnOk result (Adds text.old text.new (text_of desk.old Step.Count)) }
     ensures lines { OnOk result (AreLines false (text_of desk.old Step.Count)) }
 {
-    show(desk, text)?;
-    let reply = desk.apply(rt, Step::Count)?;
+    let Ok(()) = show(desk, text) else {
+        return Err(NoMemory);
+    };
+    let Ok(reply) = desk.apply(rt, Step::Count) else {
+        return Err(NoMemory);
+    };
     push_reply(text, reply);
     Ok(())
 }
@@ -255,9 +269,13 @@ fn judge<J: Naming, D: Decider>(
         × Adds text.old text.new told) }
     ensures kits { D.kits decider.new ≡ D.kits decider.old }
 {
-    let snapshot = desk.look()?;
+    let Ok(snapshot) = desk.look() else {
+        return Err(NoMemory);
+    };
     let pod = &question.pod;
-    decider.judge(&snapshot, pod, question.filters_alone)?;
+    let Ok(()) = decider.judge(&snapshot, pod, question.filters_alone) else {
+        return Err(NoMemory);
+    };
     push_rulings(text, named, pod, snapshot.rows(), decider.verdicts());
     push_judged(text, &pod.uid, snapshot.rows().len() as u64);
     Ok(())
@@ -269,7 +287,9 @@ fn show<J: Naming>(desk: &mut LoneDesk<J>, text: &mut TextBuilder) -> Result<(),
     ensures text { OnOk result (Adds text.old text.new (snapshot_lines (machine.snapshot desk.old.cluster))) }
     ensures lines { OnOk result (AreLines false (snapshot_lines (machine.snapshot desk.old.cluster))) }
 {
-    let snapshot = desk.look()?;
+    let Ok(snapshot) = desk.look() else {
+        return Err(NoMemory);
+    };
     push_snapshot(text, &snapshot);
     Ok(())
 }

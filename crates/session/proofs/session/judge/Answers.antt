@@ -17,7 +17,7 @@ use Rattle.session.proofs.session.judge.Goals as goal
 
 pub push_rulings-requires : goal.push_rulings-requires
 push_rulings-requires g c =
-    ap length c.verdicts.ensures ∙ (all_zip_length _ _ _ c.in_ok-judge.ensures.judged ∙ (sym (ap length c.rows.ensures) ∙ length-map c.rows.result.now shown))
+    ap length c.verdicts.ensures ∙ (all_zip_length _ _ _ c.in-Ok-judge.ensures.judged ∙ (sym (ap length c.rows.ensures) ∙ length-map c.rows.result.now shown))
 
 -- the lines of the nodes, and then the last one
 pub returns-clause-judged : goal.returns-clause-judged
@@ -30,9 +30,9 @@ returns-clause-judged g c =
     let nodes = map shown c.rows.result.now in
     let rulings = c.verdicts.result.now in
     let many = length c.rows-2.result.now in
-    let seen : nodes ≡ snapshot s.cluster = c.rows.ensures ∙ c.in_ok-snapshot.ensures.shown in
+    let seen : nodes ≡ snapshot s.cluster = c.rows.ensures ∙ c.in-Ok.ensures.shown in
     let all : many ≡ length nodes = sym (length-map c.rows-2.result.now shown) ∙ ap length (c.rows-2.ensures ∙ sym c.rows.ensures) in
-    let are : AreRulings (asked question.filters_alone rules) pod nodes rulings = subst (λ vs. AreRulings (asked question.filters_alone rules) pod nodes vs) (sym c.verdicts.ensures) (subst (λ rows. AreRulings (asked question.filters_alone rules) pod rows (g.D.Decider.last c.judge.new.self)) (sym c.rows.ensures) c.in_ok-judge.ensures.judged) in
+    let are : AreRulings (asked question.filters_alone rules) pod nodes rulings = subst (λ vs. AreRulings (asked question.filters_alone rules) pod nodes vs) (sym c.verdicts.ensures) (subst (λ rows. AreRulings (asked question.filters_alone rules) pod rows (g.D.Decider.last c.judge.new.self)) (sym c.rows.ensures) c.in-Ok-judge.ensures.judged) in
     let indented = subst (λ (p : Pod). AreLines true (ruling_lines named p nodes rulings)) c.deref.ensures c.push_rulings.ensures.lines in
     let last = subst (λ (p : Pod). AreLines false (judged_line p.uid many)) c.deref-2.ensures c.push_judged.ensures.lines in (
       ruling_lines named pod nodes rulings ++ judged_line pod.uid many,
