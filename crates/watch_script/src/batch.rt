@@ -201,11 +201,17 @@ pub(crate) fn take_lines<R: Source>(
     let mut room = BATCH_BYTES;
     for _ in 0..BATCH {
         let mut line = Vec::new(alloc);
-        if !reader.next_line(source, &mut line, &[])? {
+        let found = match reader.next_line(source, &mut line, &[]) {
+            Ok(found) => found,
+            Err(fault) => return Err(fault),
+        };
+        if !found {
             return Ok(false);
         }
         room = room.saturating_sub(line.len());
-        put(lines, line)?;
+        let Ok(()) = put(lines, line) else {
+            return Err(RunFault::NoMemory);
+        };
         if room == 0 {
             return Ok(true);
         }

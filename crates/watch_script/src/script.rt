@@ -41,9 +41,14 @@ pub(crate) fn step_in(alloc: Global, line: &[u8]) -> Result<Option<Step>, LineFa
     if line.is_empty() {
         return Ok(None);
     }
-    let command = read_line(alloc, line)?;
-    let step = step_for(command)?;
-    Ok(Some(step))
+    let command = match read_line(alloc, line) {
+        Ok(command) => command,
+        Err(fault) => return Err(fault),
+    };
+    match step_for(command) {
+        Ok(step) => Ok(Some(step)),
+        Err(fault) => Err(fault),
+    }
 }
 
 // How the fault of the line of this number ends a storm.
@@ -91,15 +96,24 @@ pub fn read_script<T: Threads + Sync, R: Source>(
     ensures no_write { result ≢ Err RunFault.Write }
     ensures placed { result ≢ Err RunFault.NoPlace }
 {
-    let mut reader = LineReader::new(alloc)?;
+    let Ok(mut reader) = LineReader::new(alloc) else {
+        return Err(RunFault::NoMemory);
+    };
     let mut lines = Vec::new(alloc);
     let mut steps = Vec::new(alloc);
     let mut number = 0u64;
     'lines: loop {
-        let more = take_lines(alloc, &mut reader, source, &mut lines)?;
+        let more = match take_lines(alloc, &mut reader, source, &mut lines) {
+            Ok(more) => more,
+            Err(fault) => return Err(fault),
+        };
         let part = read_in_four(rt, alloc, &lines);
         match part.fault {
-            None => add_all(&mut steps, part.steps)?,
+            None => {
+                let Ok(()) = add_all(&mut steps, part.steps) else {
+                    return Err(RunFault::NoMemory);
+                };
+            }
             Some(faulty) => {
                 return Err(told_at(number + faulty.before as u64 + 1, faulty.fault));
             }

@@ -29,10 +29,10 @@ module _ {T : Type 0} where
 
 pub lines-init : goal.lines-init
 lines-init g c = (
-  reading-begin _ _ _ c.in_ok-reader.ensures c.new-steps.ensures.items,
+  reading-begin _ _ _ c.in-Ok.ensures c.new-steps.ensures.items,
   All-same IsTimely _ _ c.new-steps.ensures.items (All-nil IsTimely),
   refl,
-  omega (arith, ap length c.in_ok-reader.ensures),
+  omega (arith, ap length c.in-Ok.ensures),
 )
 
 -- one of these lines is faulty
@@ -41,9 +41,9 @@ returns-in-Some-clause-line g c = λ number fault eq.
     let told = c.told_at.ensures.line number fault (same_Err _ _ eq) in
     let read = rw c.deref.ensures.value at c.read_in_four-part.ensures in
     let took : (later : Option (List ℕ)) × TakesLines (prepend_known c.lines.reader (g.R.Source.remaining c.lines.source)) later (map (λ l. l.items) c.take_lines.new.lines.items) =
-    elim c.in_ok-more.more as (λ b. c.in_ok-more.more ≡ b → (later : Option (List ℕ)) × TakesLines (prepend_known c.lines.reader (g.R.Source.remaining c.lines.source)) later (map (λ l. l.items) c.take_lines.new.lines.items)) [
-      | true ↦ λ yes. (prepend_known c.take_lines.new.reader (g.R.Source.remaining c.take_lines.new.source), c.in_ok-more.ensures.more (ap Ok yes))
-      | false ↦ λ no. let ended = c.in_ok-more.ensures.ended (ap Ok no) in (ended.0, ended.1)
+    elim c.in-Ok-take_lines.more as (λ b. c.in-Ok-take_lines.more ≡ b → (later : Option (List ℕ)) × TakesLines (prepend_known c.lines.reader (g.R.Source.remaining c.lines.source)) later (map (λ l. l.items) c.take_lines.new.lines.items)) [
+      | true ↦ λ yes. (prepend_known c.take_lines.new.reader (g.R.Source.remaining c.take_lines.new.source), c.in-Ok-take_lines.ensures.more (ap Ok yes))
+      | false ↦ λ no. let ended = c.in-Ok-take_lines.ensures.ended (ap Ok no) in (ended.0, ended.1)
     ] refl in
     read-fault _ _ took.0 _ _ _ _ c.in-Some.faulty _ number fault read c.in-Some.is took.1 told.2 (omega (arith, told.0)) told.1 c.lines.invariant.0
 
@@ -57,7 +57,7 @@ pub returns-in-Some-clause-failed : goal.returns-in-Some-clause-failed
 returns-in-Some-clause-failed g c = λ eq. absurd (told-not_read _ _ _ c.told_at.ensures.faults eq)
 
 pub returns-in-Some-clause-told : goal.returns-in-Some-clause-told
-returns-in-Some-clause-told g c = λ _. c.in_ok-more.ensures.kept (λ eq. subst (λ r. OnErr r ⊥) eq tt) ∙ c.lines.invariant.2
+returns-in-Some-clause-told g c = λ _. c.in-Ok-take_lines.ensures.kept (λ eq. subst (λ r. OnErr r ⊥) eq tt) ∙ c.lines.invariant.2
 
 pub returns-in-Some-clause-no_write : goal.returns-in-Some-clause-no_write
 returns-in-Some-clause-no_write g c = λ eq. told-not_write _ _ _ c.told_at.ensures.faults eq
@@ -69,28 +69,28 @@ returns-in-Some-clause-placed g c = λ eq. told-not_place _ _ _ c.told_at.ensure
 pub overflow_add-number : goal.overflow_add-number
 overflow_add-number g c =
     let there = read-there _ _ _ c.in-Some.faulty c.read_in_four-part.ensures c.in-Some.is in
-    omega (arith, there, length-map c.deref.result.now (λ l. l.items), c.deref.ensures.len, c.in_ok-more.ensures.few, c.lines.invariant.3, c.requires.finite)
+    omega (arith, there, length-map c.deref.result.now (λ l. l.items), c.deref.ensures.len, c.in-Ok-take_lines.ensures.few, c.lines.invariant.3, c.requires.finite)
 
 pub overflow_add-number-in-Some : goal.overflow_add-number-in-Some
 overflow_add-number-in-Some g c =
     let there = read-there _ _ _ c.in-Some.faulty c.read_in_four-part.ensures c.in-Some.is in
-    omega (arith, there, length-map c.deref.result.now (λ l. l.items), c.deref.ensures.len, c.in_ok-more.ensures.few, c.lines.invariant.3, c.requires.finite)
+    omega (arith, there, length-map c.deref.result.now (λ l. l.items), c.deref.ensures.len, c.in-Ok-take_lines.ensures.few, c.lines.invariant.3, c.requires.finite)
 
 pub overflow_add-number-in-lines : goal.overflow_add-number-in-lines
-overflow_add-number-in-lines g c = omega (arith, c.len.ensures, c.in_ok-more.ensures.few, c.lines.invariant.3, c.requires.finite)
+overflow_add-number-in-lines g c = omega (arith, c.len.ensures, c.in-Ok-take_lines.ensures.few, c.lines.invariant.3, c.requires.finite)
 
 pub lines-smaller : goal.lines-smaller
-lines-smaller g c = omega (arith, c.in_ok-more.ensures.less (ap Ok c.if-not-more.false), c.in_ok-more.ensures.some (ap Ok c.if-not-more.false))
+lines-smaller g c = omega (arith, c.in-Ok-take_lines.ensures.less (ap Ok c.if-not-more.false), c.in-Ok-take_lines.ensures.some (ap Ok c.if-not-more.false))
 
 -- all of the script is read
 pub returns-then-not-more-clause-read : goal.returns-then-not-more-clause-read
 returns-then-not-more-clause-read g c =
-    let ended = c.in_ok-more.ensures.ended (ap Ok c.if-not-more.true) in
+    let ended = c.in-Ok-take_lines.ensures.ended (ap Ok c.if-not-more.true) in
     let read = rw c.deref.ensures.value at c.read_in_four-part.ensures in
-    reading-end _ ended.0 _ _ _ _ (ended.2, ended.3, ended.4) (read-more _ _ ended.0 _ _ _ _ _ _ _ read c.in-None.is ended.1 c.in_ok-add_all-in-None.ensures.added refl c.lines.invariant.0)
+    reading-end _ ended.0 _ _ _ _ (ended.2, ended.3, ended.4) (read-more _ _ ended.0 _ _ _ _ _ _ _ read c.in-None.is ended.1 c.in-Ok-add_all.ensures.added refl c.lines.invariant.0)
 
 pub returns-then-not-more-clause-timely : goal.returns-then-not-more-clause-timely
-returns-then-not-more-clause-timely g c = read-timely _ _ _ _ _ c.read_in_four-part.ensures c.in_ok-add_all-in-None.ensures.added c.lines.invariant.1
+returns-then-not-more-clause-timely g c = read-timely _ _ _ _ _ c.read_in_four-part.ensures c.in-Ok-add_all.ensures.added c.lines.invariant.1
 
 pub returns-then-not-more-clause-line : goal.returns-then-not-more-clause-line
 returns-then-not-more-clause-line g c = λ number fault eq. absurd (subst (λ r. OnErr r ⊥) eq tt)
@@ -99,7 +99,7 @@ pub returns-then-not-more-clause-failed : goal.returns-then-not-more-clause-fail
 returns-then-not-more-clause-failed g c = λ eq. absurd (subst (λ r. OnErr r ⊥) eq tt)
 
 pub returns-then-not-more-clause-told : goal.returns-then-not-more-clause-told
-returns-then-not-more-clause-told g c = λ _. c.in_ok-more.ensures.kept (λ eq. subst (λ r. OnErr r ⊥) eq tt) ∙ c.lines.invariant.2
+returns-then-not-more-clause-told g c = λ _. c.in-Ok-take_lines.ensures.kept (λ eq. subst (λ r. OnErr r ⊥) eq tt) ∙ c.lines.invariant.2
 
 pub returns-then-not-more-clause-no_write : goal.returns-then-not-more-clause-no_write
 returns-then-not-more-clause-no_write g c = λ eq. subst (λ r. OnErr r ⊥) eq tt
@@ -110,11 +110,11 @@ returns-then-not-more-clause-placed g c = λ eq. subst (λ r. OnErr r ⊥) eq tt
 -- these lines were read
 pub lines-preserved : goal.lines-preserved
 lines-preserved g c =
-    let took = c.in_ok-more.ensures.more (ap Ok c.if-not-more.false) in
+    let took = c.in-Ok-take_lines.ensures.more (ap Ok c.if-not-more.false) in
     let read = rw c.deref.ensures.value at c.read_in_four-part.ensures in
     let many : length (map (λ l. l.items) c.take_lines.new.lines.items) ≡ c.len.result = omega (arith, length-map c.take_lines.new.lines.items (λ l. l.items), c.len.ensures, c.take_lines.new.lines.ok) in (
-      read-more _ _ _ _ _ _ _ _ _ _ read c.in-None.is took c.in_ok-add_all-in-None.ensures.added (omega (arith, many)) c.lines.invariant.0,
-      read-timely _ _ _ _ _ read c.in_ok-add_all-in-None.ensures.added c.lines.invariant.1,
-      c.in_ok-more.ensures.kept (λ eq. subst (λ r. OnErr r ⊥) eq tt) ∙ c.lines.invariant.2,
-      omega (arith, c.lines.invariant.3, c.in_ok-more.ensures.less (ap Ok c.if-not-more.false), c.len.ensures),
+      read-more _ _ _ _ _ _ _ _ _ _ read c.in-None.is took c.in-Ok-add_all.ensures.added (omega (arith, many)) c.lines.invariant.0,
+      read-timely _ _ _ _ _ read c.in-Ok-add_all.ensures.added c.lines.invariant.1,
+      c.in-Ok-take_lines.ensures.kept (λ eq. subst (λ r. OnErr r ⊥) eq tt) ∙ c.lines.invariant.2,
+      omega (arith, c.lines.invariant.3, c.in-Ok-take_lines.ensures.less (ap Ok c.if-not-more.false), c.len.ensures),
     )
