@@ -47,7 +47,10 @@ pub fn site_kits(
     ensures alike { IfOk result (λ kits. JudgeAlike rules_of kits.items) }
     ensures refused { IfErr result (WhyNoSite (map syntax_of specs.now) (map (λ m. m.items) modules.now)) }
 {
-    let site = configured(alloc, specs, modules)?;
+    let site = match configured(alloc, specs, modules) {
+        Ok(site) => site,
+        Err(fault) => return Err(fault),
+    };
     match kits_of(alloc, site.as_slice(), many) {
         Ok(kits) => {
             kits_are_alike();
@@ -71,7 +74,10 @@ fn configured(
 {
     let mut site = Vec::new(alloc);
     for place in 0..specs.len() {
-        let configuration = configured_by(alloc, &specs[place], modules[place].as_slice())?;
+        let configuration = match configured_by(alloc, &specs[place], modules[place].as_slice()) {
+            Ok(configuration) => configuration,
+            Err(fault) => return Err(fault),
+        };
         if site.push(configuration).is_err() {
             return Err(NO_MEMORY);
         }
@@ -84,7 +90,10 @@ fn configured_by(alloc: Global, spec: &Spec<'_>, bytes: &[u8]) -> Result<Configu
     ensures made { IfOk result (λ it. IsPlugin (syntax_of spec.now) bytes.now (configuration_of it)) }
     ensures refused { IfErr result (WhyNoPlugin spec.now.name bytes.now) }
 {
-    let checked = checked_from(alloc, &spec.name, bytes)?;
+    let checked = match checked_from(alloc, &spec.name, bytes) {
+        Ok(checked) => checked,
+        Err(fault) => return Err(fault),
+    };
     let Ok(checked) = Arc::new(alloc, checked) else {
         return Err(NO_MEMORY);
     };
@@ -139,7 +148,10 @@ pub fn modules_in<F: Files>(
 {
     let mut modules = Vec::new(alloc);
     for place in 0..specs.len() {
-        let module = module_in(alloc, &specs[place], files)?;
+        let module = match module_in(alloc, &specs[place], files) {
+            Ok(module) => module,
+            Err(fault) => return Err(fault),
+        };
         if modules.push(module).is_err() {
             return Err(NO_MEMORY);
         }

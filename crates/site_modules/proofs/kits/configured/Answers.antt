@@ -1,6 +1,5 @@
 use Rattle.std.proofs.Common.{◌≡◌, ◌∙◌, true, not, ap, length, map, refl, sym, arith}
 use Rattle.std.specs.Result.{is_ok}
-use Rattle.std.proofs.lemmas.Result.{err_from_is_err_and}
 use Rattle.std.proofs.lemmas.List.{length-map}
 use Rattle.std.proofs.lemmas.Option.{slice_get_read}
 use Rattle.command.specs.Words.{syntax_of}
@@ -13,20 +12,19 @@ use Rattle.site_modules.proofs.kits.configured.Goals as goal
 pub loop-place-init : goal.loop-place-init
 loop-place-init c = rw c.new-site.ensures.items tt
 
-pub returns-in_err-configuration-clause-refused : goal.returns-in_err-configuration-clause-refused
-returns-in_err-configuration-clause-refused c =
-    let p = err_from_is_err_and c.from_residual.result c.from_residual.ensures.1 in
-    let why = rw c.as_slice.ensures.value at c.in_err-configuration.ensures.refused in
-    rw (p.1, p.2) (refused_at (λ m. m.items) c.args.specs.now c.args.modules.now (configurations_of c.loop-place.site.items) c.loop-place.place c.index-specs-place.result c.index-modules-place.result c.in_err-configuration.field-0.0
+pub returns-in-Err-clause-refused : goal.returns-in-Err-clause-refused
+returns-in-Err-clause-refused c =
+    let why = rw c.as_slice.ensures.value at c.in-Err.ensures.refused in
+    refused_at (λ m. m.items) c.args.specs.now c.args.modules.now (configurations_of c.loop-place.site.items) c.loop-place.place c.index-specs-place.result c.index-modules-place.result c.in-Err.fault
     (slice_get_read c.args.specs.now (length c.args.specs.now) c.loop-place.place c.index-specs-place.result refl c.loop-place-test.true c.index-specs-place.is)
     (slice_get_read c.args.modules.now (length c.args.modules.now) c.loop-place.place c.index-modules-place.result refl (omega (arith, c.loop-place-test.true, c.requires)) c.index-modules-place.is)
-    c.loop-place.invariant why)
+    c.loop-place.invariant why
 
 pub loop-place-preserved : goal.loop-place-preserved
 loop-place-preserved c =
     let ok : is_ok c.push.result ≡ true = c.is_err.ensures.negation ∙ ap not c.if-is_err.false in
-    let made = rw c.as_slice.ensures.value at c.in_ok-configuration.ensures.made in
-    plugin_joins (λ m. m.items) configuration_of c.args.specs.now c.args.modules.now c.loop-place.site.items c.push.new.self.items c.loop-place.place c.index-specs-place.result c.index-modules-place.result c.in_ok-configuration.configuration
+    let made = rw c.as_slice.ensures.value at c.in-Ok.ensures.made in
+    plugin_joins (λ m. m.items) configuration_of c.args.specs.now c.args.modules.now c.loop-place.site.items c.push.new.self.items c.loop-place.place c.index-specs-place.result c.index-modules-place.result c.in-Ok.configuration
     (slice_get_read c.args.specs.now (length c.args.specs.now) c.loop-place.place c.index-specs-place.result refl c.loop-place-test.true c.index-specs-place.is)
     (slice_get_read c.args.modules.now (length c.args.modules.now) c.loop-place.place c.index-modules-place.result refl (omega (arith, c.loop-place-test.true, c.requires)) c.index-modules-place.is)
     (rw ok at c.push.ensures.items) c.loop-place.invariant made

@@ -6,6 +6,6 @@ returns-clause-made c = record {
   name = c.copied.ensures;
   weight = refl;
   fuel = refl;
-  spells = rw (← c.in-Ok.ensures.ok) at c.in_ok-checked.ensures.spells;
-  accepted = rw (← c.in-Ok.ensures.ok) at c.in_ok-checked.ensures.accepted;
+  spells = rw (← c.in-Ok-new.ensures.ok) at c.in-Ok.ensures.spells;
+  accepted = rw (← c.in-Ok-new.ensures.ok) at c.in-Ok.ensures.accepted;
 }
