@@ -64,11 +64,18 @@ fn instantiate(machine: &mut Machine, fuel: u64) -> Result<(), InstanceFault>
     ensures store { IfOk result (λ _. machine.new.store ≡ machine.new.image) }
     ensures refused { IfErr result (WhyRefused (module_of machine.old.content) fuel) }
 {
-    test_bounds(machine)?;
+    match test_bounds(machine) {
+        Ok(()) => {}
+        Err(fault) => return Err(fault),
+    }
     write_segments(machine);
-    start(machine, fuel)?;
-    machine.keep();
-    Ok(())
+    match start(machine, fuel) {
+        Ok(()) => {
+            machine.keep();
+            Ok(())
+        }
+        Err(fault) => Err(fault),
+    }
 }
 
 impl Instance {
@@ -88,8 +95,10 @@ impl Instance {
         let Ok(mut machine) = Machine::new(alloc, checked) else {
             return Err(InstanceFault::NoMemory);
         };
-        instantiate(&mut machine, fuel)?;
-        Ok(Instance { machine })
+        match instantiate(&mut machine, fuel) {
+            Ok(()) => Ok(Instance { machine }),
+            Err(fault) => Err(fault),
+        }
     }
 
     /// The module has this to be called.
