@@ -1,8 +1,8 @@
-use Rattle.std.proofs.Common.{◌≡◌, ◌≢◌, ◌+◌, ◌∷◌, [], ◌++◌, Bool, List, ℕ, Result, Ok, Err, OnErr, ap, map, sym, subst, ◌∙◌, arith, vec_len}
+use Rattle.std.proofs.Common.{◌≡◌, ◌+◌, ◌<◌, ◌∷◌, [], ◌++◌, Bool, List, ℕ, Result, Ok, Err, OnErr, ap, map, sym, subst, ◌∙◌, arith, vec_len}
 use Rattle.std.proofs.lemmas.Bool.{true≢false, false≢true}
 use Rattle.std.proofs.lemmas.List.{map-append}
 use Rattle.std.proofs.lemmas.List.Sums.{sum_by-append}
-use Rattle.std.specs.Result.{IsErr}
+use Rattle.std.specs.Result.{OnOk}
 use Rattle.std.specs.List.{sum_by}
 use Rattle.std.specs.Io.KnownBytes.{prepend_known}
 use Rattle.streams.specs.declared.fault.RunFault.{RunFault}
@@ -16,11 +16,11 @@ same_Ok : (x y : Bool) → ◌≡◌ {A = Result Bool RunFault} (Ok x) (Ok y) �
 same_Ok x y eq = cc
 
 -- a failed call has not answered, and want of memory is no failed read
-no_ok : (r : Result Bool RunFault) (x : Bool) → IsErr r → r ≡ Ok x → ⊥
-no_ok r x failed eq = false≢true (subst (λ (s : Result Bool RunFault). IsErr s) eq failed)
+no_ok : (e : RunFault) (x : Bool) → ◌≡◌ {A = Result Bool RunFault} (Err e) (Ok x) → ⊥
+no_ok e x eq = subst (λ (r : Result Bool RunFault). OnOk r ⊥) eq tt
 
-no_memory-not_read : (r : Result Bool RunFault) (e : RunFault) → r ≡ Err e → e ≡ NoMemory → r ≢ Err Read
-no_memory-not_read r e is what eq = cc
+no_read : ◌≡◌ {A = Result Bool RunFault} (Err NoMemory) (Err Read) → ⊥
+no_read eq = cc
 
 -- one line more was taken, and there is room for another
 pub loop-preserved : goal.loop-preserved
@@ -117,3 +117,50 @@ returns-clause-less g c = λ _. c.loop.invariant.2
 
 pub returns-clause-kept : goal.returns-clause-kept
 returns-clause-kept g c = λ _. c.loop.invariant.1
+
+pub returns-then-room-eq0-clause-failed : goal.returns-then-room-eq0-clause-failed
+returns-then-room-eq0-clause-failed g c = λ eq. absurd (subst (λ r. OnErr r ⊥) eq tt)
+
+pub returns-then-not-found-clause-failed : goal.returns-then-not-found-clause-failed
+returns-then-not-found-clause-failed g c = λ eq. absurd (subst (λ r. OnErr r ⊥) eq tt)
+
+pub returns-clause-failed : goal.returns-clause-failed
+returns-clause-failed g c = λ eq. absurd (subst (λ r. OnErr r ⊥) eq tt)
+
+-- a line could not be taken
+pub returns-in-Err-clause-more : goal.returns-in-Err-clause-more
+returns-in-Err-clause-more g c = λ eq. absurd (no_ok _ _ eq)
+
+pub returns-in-Err-clause-some : goal.returns-in-Err-clause-some
+returns-in-Err-clause-some g c = λ eq. absurd (no_ok _ _ eq)
+
+pub returns-in-Err-clause-ended : goal.returns-in-Err-clause-ended
+returns-in-Err-clause-ended g c = λ eq. absurd (no_ok _ _ eq)
+
+pub returns-in-Err-clause-less : goal.returns-in-Err-clause-less
+returns-in-Err-clause-less g c = λ eq. absurd (no_ok _ _ eq)
+
+pub returns-in-Err-clause-failed : goal.returns-in-Err-clause-failed
+returns-in-Err-clause-failed g c = λ eq. subst (λ n. n < g.R.Source.failure_count c.next_line.new.source) c.loop.invariant.1 (c.in-Err.ensures.failed eq)
+
+pub returns-in-Err-clause-kept : goal.returns-in-Err-clause-kept
+returns-in-Err-clause-kept g c = λ other. c.in-Err.ensures.kept other ∙ c.loop.invariant.1
+
+-- there was no memory for one
+pub returns-in_default-clause-more : goal.returns-in_default-clause-more
+returns-in_default-clause-more g c = λ eq. absurd (no_ok _ _ eq)
+
+pub returns-in_default-clause-some : goal.returns-in_default-clause-some
+returns-in_default-clause-some g c = λ eq. absurd (no_ok _ _ eq)
+
+pub returns-in_default-clause-ended : goal.returns-in_default-clause-ended
+returns-in_default-clause-ended g c = λ eq. absurd (no_ok _ _ eq)
+
+pub returns-in_default-clause-less : goal.returns-in_default-clause-less
+returns-in_default-clause-less g c = λ eq. absurd (no_ok _ _ eq)
+
+pub returns-in_default-clause-failed : goal.returns-in_default-clause-failed
+returns-in_default-clause-failed g c = λ eq. absurd (no_read eq)
+
+pub returns-in_default-clause-kept : goal.returns-in_default-clause-kept
+returns-in_default-clause-kept g c = λ _. c.in-Ok.ensures.kept (λ eq. subst (λ r. OnErr r ⊥) eq tt) ∙ c.loop.invariant.1
