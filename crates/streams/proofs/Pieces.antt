@@ -1,7 +1,7 @@
 -- Pieces of lines, as they are cut off a buffer and kept.
-use Rattle.std.proofs.Common.{◌≡◌, ℕ, ◌+◌, ◌-◌, ◌<◌, List, ◌∷◌, ◌++◌, length, take, drop, get_or, min, slice_range, sym, ap, ◌∙◌, arith}
+use Rattle.std.proofs.Common.{◌≡◌, ℕ, ◌+◌, ◌-◌, ◌<◌, ◌≤◌, List, ◌∷◌, ◌++◌, length, take, drop, get_or, min, slice_range, sym, ap, ◌∙◌, arith}
 use Rattle.std.proofs.Math.Seq.{take-append-add}
-use Rattle.std.proofs.lemmas.List.{take_min, take-append-drop, length-take, drop-take, drop-drop, drop_more}
+use Rattle.std.proofs.lemmas.List.{take_all, take_min, take-append-drop, take-append-le, length-take, drop-take, drop-drop, drop_more}
 
 -- what is added to a kept line within its room is kept of the whole
 pub kept_push : (most : ℕ) (line piece : List ℕ) (room n : ℕ) → length line + room ≡ most → n ≡ min (length piece) room → line ++ take n piece ≡ take most (line ++ piece)
@@ -21,3 +21,11 @@ range-cut xs start end at inside newline =
     in
     sym (take-append-drop at v)
     ∙ ap (λ t. take at v ++ t) (drop_more v at 0 inside ∙ ap (λ b. b ∷ drop (at + 1) v) newline ∙ ap (λ t. 10 ∷ t) behind)
+
+-- the first of a list whose items were all written anew
+pub written-front : (xs old : List ℕ) (len n : ℕ) → length xs ≡ len → slice_range (take len (xs ++ old)) 0 n ≡ take n xs
+written-front xs old len n long =
+    let within : len ≤ length xs = omega arith in
+    let past : length xs ≤ len = omega arith in
+    let all : n - 0 ≡ n = omega arith in
+    ap (λ k. take k (take len (xs ++ old))) all ∙ ap (λ t. take n t) (take-append-le len xs old within ∙ take_all len xs past)
