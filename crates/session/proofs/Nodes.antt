@@ -1,5 +1,5 @@
 -- What is told of the nodes that a cycle saw.
-use Rattle.std.proofs.Common.{◌≡◌, ℕ, Bool, true, false, List, [], ◌++◌, Some, None, length, refl, sym, ap, subst}
+use Rattle.std.proofs.Common.{◌≡◌, ℕ, Bool, true, false, List, [], ◌++◌, Some, None, Result, Ok, Err, OnOk, length, refl, sym, ap, subst}
 use Rattle.quant.specs.declared.objects.Pod.{Pod}
 use Rattle.desk.specs.declared.step.Step.TheVariants.{Pop}
 use Rattle.desk.specs.Machine as machine
@@ -60,3 +60,8 @@ told rules named explains s popped pod verdicts on pops is are =
     subst (λ b. TellsNodes rules named b s (verdict_lines named pod (snapshot popped.cluster) verdicts)) (sym on)
     (subst (λ r. Explains rules named (machine.after s 0 Pop) r (verdict_lines named pod (snapshot popped.cluster) verdicts)) pops
     (verdicts, subst (λ (t : State). AreVerdicts rules pod (snapshot t.cluster) verdicts) is are, ap (λ (t : State). verdict_lines named pod (snapshot t.cluster) verdicts) is))
+
+-- what is so in any case is so where memory wasn't wanting
+pub in_any_case : {T E P : Type 0} (r : Result T E) → P → OnOk r P
+in_any_case (Ok x) so = so
+in_any_case (Err e) so = tt

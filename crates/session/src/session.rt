@@ -138,20 +138,16 @@ fn fill<J: Naming, R: Wait + Threads + Sync, D: Decider>(
         desk.old command desk.new told × Adds text.old text.new told) }
     ensures kits { D.kits decider.new ≡ D.kits decider.old }
 {
-    match command {
-        Command::Event(event) => do_step(rt, desk, Step::Event(event), text),
-        Command::Tick(now) => do_step(rt, desk, Step::Tick(now), text),
-        Command::Cycle => do_cycle(rt, named, explains, decider, desk, text),
-        Command::BindDone { uid, ticket } => do_step(
-            rt,
-            desk,
-            Step::BindDone { uid, ticket },
-            text,
-        ),
-        Command::Forget { uid, ticket } => do_step(rt, desk, Step::Forget { uid, ticket }, text),
-        Command::Dump => dump(rt, desk, text),
-        Command::Judge(question) => judge(named, decider, desk, &question, text),
-    }
+    let step = match command {
+        Command::Event(event) => Step::Event(event),
+        Command::Tick(now) => Step::Tick(now),
+        Command::Cycle => return do_cycle(rt, named, explains, decider, desk, text),
+        Command::BindDone { uid, ticket } => Step::BindDone { uid, ticket },
+        Command::Forget { uid, ticket } => Step::Forget { uid, ticket },
+        Command::Dump => return dump(rt, desk, text),
+        Command::Judge(question) => return judge(named, decider, desk, &question, text),
+    };
+    do_step(rt, desk, step, text)
 }
 
 // Takes a step before which no nodes are shown, and adds the lines that answer it to the text.
@@ -243,7 +239,10 @@ fn tell_cycle<J: Naming, R: Wait + Threads + Sync, D: Decider>(
         None => return Ok(Cycled::Idle),
     };
     if !explains {
-        return Ok(desk.place(rt, &pod, decider, false)?);
+        return match desk.place(rt, &pod, decider, false) {
+            Ok(came) => Ok(came),
+            Err(_) => Err(NoMemory),
+        };
     }
     let Ok(snapshot) = desk.look() else {
         return Err(NoMemory);

@@ -7,8 +7,9 @@ use Rattle.choose.proofs.Verdicts.{all_zip_length}
 use Rattle.streams.proofs.Built.{adds_nothing}
 use Rattle.output_lines.specs.Telling.{TellsNodes, verdict_lines}
 use Rattle.output_lines.proofs.Indented.{no_lines}
-use Rattle.session.proofs.Nodes.{idle_cycle, placed_cycle, told, unexplained, untold}
+use Rattle.session.proofs.Nodes.{idle_cycle, in_any_case, placed_cycle, told, unexplained, untold}
 use Rattle.session.proofs.session.tell_cycle.Goals as goal
+use Rattle.session.proofs.session.tell_cycle.Goals.{in-Ok-place, in-Err}
 
 -- ---- no pod was popped
 
@@ -27,12 +28,15 @@ returns-in-None-clause-told g c =
 pub returns-then-not-explains-clause-cycled : goal.returns-then-not-explains-clause-cycled
 returns-then-not-explains-clause-cycled g c =
     let pops = rw c.in-Some.is at c.in-Ok.ensures.popped in
-    placed_cycle _ _ _ _ _ _ pops c.in-Ok.ensures.after c.in_ok-place.ensures.decided
+    elim c.match-place.branch [
+      | in-Ok-place w ↦ rw w.result-is (placed_cycle _ _ _ _ _ _ pops c.in-Ok.ensures.after w.in-Ok-place.ensures.decided)
+      | in-Err w ↦ rw w.result-is tt
+    ]
 
 pub returns-then-not-explains-clause-told : goal.returns-then-not-explains-clause-told
 returns-then-not-explains-clause-told g c =
     let no : c.args.explains ≡ false = search rules in
-    ([], unexplained _ _ _ _ no, no_lines true, adds_nothing c.args.text.now)
+    in_any_case c.match-place.result ([], unexplained _ _ _ _ no, no_lines true, adds_nothing c.args.text.now)
 
 -- ---- one was, and it is explained
 
@@ -40,12 +44,12 @@ pub push_verdicts-requires : goal.push_verdicts-requires
 push_verdicts-requires g c =
     let seen : map shown c.rows.result.now ≡ snapshot c.look.new.self.cluster =
     c.rows.ensures ∙ (c.in-Ok-look.ensures.shown ∙ ap (λ (s : State). snapshot s.cluster) (sym c.look.ensures.same)) in
-    ap length c.verdicts.ensures ∙ (all_zip_length _ _ _ (c.in-Ok-place.ensures.verdicts refl) ∙ (sym (ap length seen) ∙ length-map c.rows.result.now shown))
+    ap length c.verdicts.ensures ∙ (all_zip_length _ _ _ (c.in-Ok-place-2.ensures.verdicts refl) ∙ (sym (ap length seen) ∙ length-map c.rows.result.now shown))
 
 pub returns-clause-cycled : goal.returns-clause-cycled
 returns-clause-cycled g c =
     let pops = rw c.in-Some.is at c.in-Ok.ensures.popped in
-    placed_cycle _ _ _ _ _ _ pops (c.look.ensures.same ∙ c.in-Ok.ensures.after) c.in-Ok-place.ensures.decided
+    placed_cycle _ _ _ _ _ _ pops (c.look.ensures.same ∙ c.in-Ok.ensures.after) c.in-Ok-place-2.ensures.decided
 
 pub returns-clause-told : goal.returns-clause-told
 returns-clause-told g c =
@@ -54,7 +58,7 @@ returns-clause-told g c =
     let seen : map shown c.rows.result.now ≡ snapshot c.look.new.self.cluster =
     c.rows.ensures ∙ (c.in-Ok-look.ensures.shown ∙ ap (λ (s : State). snapshot s.cluster) (sym c.look.ensures.same)) in
     let tells = told (rules_of g.D.Kit.Rules.answers (g.D.Decider.kits c.args.decider.now)) c.args.named.now c.args.explains c.args.desk.now _ _ _ yes pops
-    (c.look.ensures.same ∙ c.in-Ok.ensures.after) (c.in-Ok-place.ensures.verdicts refl) in (
+    (c.look.ensures.same ∙ c.in-Ok.ensures.after) (c.in-Ok-place-2.ensures.verdicts refl) in (
       verdict_lines c.args.named.now c.deref.result.now (map shown c.rows.result.now) c.verdicts.result.now,
       subst (TellsNodes (rules_of g.D.Kit.Rules.answers (g.D.Decider.kits c.args.decider.now)) c.args.named.now c.args.explains c.args.desk.now)
           (λ i. verdict_lines c.args.named.now (sym c.deref.ensures i) (sym seen i) (sym c.verdicts.ensures i)) tells,
