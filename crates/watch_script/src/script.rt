@@ -24,11 +24,11 @@ fn step_for(command: Command) -> Result<Step, LineFault>
     match command {
         Command::Event(event) => Ok(Step::Event(event)),
         Command::Tick(now) => Ok(Step::Tick(now)),
-        Command::Cycle => Err(LineFault::BadField(Field::Op)),
-        Command::BindDone { uid: _, ticket: _ } => Err(LineFault::BadField(Field::Op)),
-        Command::Forget { uid: _, ticket: _ } => Err(LineFault::BadField(Field::Op)),
-        Command::Dump => Err(LineFault::BadField(Field::Op)),
-        Command::Judge(_) => Err(LineFault::BadField(Field::Op)),
+        Command::Cycle
+        | Command::BindDone { uid: _, ticket: _ }
+        | Command::Forget { uid: _, ticket: _ }
+        | Command::Dump
+        | Command::Judge(_) => Err(LineFault::BadField(Field::Op)),
     }
 }
 
