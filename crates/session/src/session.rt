@@ -240,7 +240,7 @@ fn tell_cycle<J: Naming, R: Wait + Threads + Sync, D: Decider>(
     };
     if !explains {
         return match desk.place(rt, &pod, decider, false) {
-            Ok(came) => Ok(came),
+            Ok(cycled) => Ok(cycled),
             Err(_) => Err(NoMemory),
         };
     }
