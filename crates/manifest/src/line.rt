@@ -103,7 +103,8 @@ fn command_of(alloc: Global, object: &Value) -> Result<Command, LineFault>
     }
 }
 
-// The node that an object tells of.
+// The node that an object tells of. (Where a name or a row would be dropped, a fault is handed on by
+// a `match`, whose proof is half of that of a `?`: here, and in `row` and `item`.)
 fn node_of(alloc: Global, object: &Value) -> Result<Command, LineFault>
     ensures { Answers result (node_in (view object.now)) }
 {

@@ -24,14 +24,14 @@ pub(crate) fn allocatable_of(object: &Value) -> Result<Res, LineFault>
         Ok(cpu) => cpu,
         Err(fault) => return Err(fault),
     };
-    let mem = match memory_at(object) {
-        Ok(mem) => mem,
+    let memory = match memory_at(object) {
+        Ok(memory) => memory,
         Err(fault) => return Err(fault),
     };
     match natural_at(object, Field::Pods, 0, MAX_PLACED as u64) {
         Ok(pods) => Ok(Res {
             cpu,
-            mem,
+            mem: memory,
             pods: pods as u32,
         }),
         Err(fault) => Err(fault),
