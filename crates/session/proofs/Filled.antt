@@ -1,12 +1,13 @@
 -- What a step is answered, where it was done.
-use Rattle.std.proofs.Common.{◌≡◌, ℕ, List, [], Option, Some, Result, Ok, Err, OnOk, refl, sym, subst}
+use Rattle.std.proofs.Common.{◌≡◌, ℕ, List, [], ◌++◌, Option, Some, Result, Ok, Err, OnOk, refl, sym, subst}
 use Rattle.std.specs.Prelude.{false}
 use Rattle.rules.specs.RuleSet.{RuleSet}
 use Rattle.manifest.specs.declared.command.Command.{Command}
 use Rattle.manifest.specs.declared.command.Command.TheVariants as commands
 use Rattle.manifest.specs.declared.command.Question.{Question}
 use Rattle.streams.specs.declared.text_builder.TextBuilder.{TextBuilder}
-use Rattle.streams.specs.TextBuilder.{Adds}
+use Rattle.streams.specs.TextBuilder.{Adds, Holds}
+use Rattle.streams.proofs.Built.{adds_all}
 use Rattle.output_lines.specs.Telling.{Judges, Telling}
 use Rattle.desk.specs.declared.step.Step.{Step}
 use Rattle.desk.specs.Machine as machine
@@ -45,3 +46,10 @@ module _ {T E : Type 0} (rules : RuleSet) (telling : Telling) (s s' : State) (co
       → OnOk r ((told : List ℕ) × Answered rules telling s command s' told × Adds before now told)
   by_rules (Ok x) question is stays told = as_it (Ok x) (commands.Judge question) is (told.0, (stays, told.1), told.2)
   by_rules (Err e) question is stays told = tt
+
+-- what was added to an empty text, and then handed out whole
+pub handed : {T E : Type 0} (Told : List ℕ → Type 0) (r : Result T E) (empty text : TextBuilder) (before now : List ℕ) → Holds empty [] → (told : List ℕ) × Told told × Adds empty text told
+    → OnOk r ((whole : List ℕ) × Holds text whole × (now ≡ before ++ whole)) → OnOk r ((told : List ℕ) × Told told × (now ≡ before ++ told))
+handed Told (Ok x) empty text before now none told whole =
+    (told.0, told.1, subst (λ t. now ≡ before ++ t) (adds_all empty text told.0 whole.0 none told.2 whole.1) whole.2)
+handed Told (Err e) empty text before now none told whole = tt
