@@ -27,6 +27,15 @@ module _ {T : Type 0} where
   told-not_place r n f (inl none) eq = cc
   told-not_place r n f (inr told) eq = cc
 
+  none-not_read : ◌≡◌ {A = Result T RunFault} (Err NoMemory) (Err Read) → ⊥
+  none-not_read eq = cc
+
+  none-not_write : ◌≡◌ {A = Result T RunFault} (Err NoMemory) (Err Write) → ⊥
+  none-not_write eq = cc
+
+  none-not_place : ◌≡◌ {A = Result T RunFault} (Err NoMemory) (Err NoPlace) → ⊥
+  none-not_place eq = cc
+
 pub lines-init : goal.lines-init
 lines-init g c = (
   reading-begin _ _ _ c.in-Ok.ensures c.new-steps.ensures.items,
@@ -118,3 +127,16 @@ lines-preserved g c =
       c.in-Ok-take_lines.ensures.kept (λ eq. subst (λ r. OnErr r ⊥) eq tt) ∙ c.lines.invariant.2,
       omega (arith, c.lines.invariant.3, c.in-Ok-take_lines.ensures.less (ap Ok c.if-not-more.false), c.len.ensures),
     )
+
+-- there was no memory for their steps
+pub returns-in_default-add_all-clause-failed : goal.returns-in_default-add_all-clause-failed
+returns-in_default-add_all-clause-failed g c = λ eq. absurd (none-not_read eq)
+
+pub returns-in_default-add_all-clause-told : goal.returns-in_default-add_all-clause-told
+returns-in_default-add_all-clause-told g c = λ _. c.in-Ok-take_lines.ensures.kept (λ eq. subst (λ r. OnErr r ⊥) eq tt) ∙ c.lines.invariant.2
+
+pub returns-in_default-add_all-clause-no_write : goal.returns-in_default-add_all-clause-no_write
+returns-in_default-add_all-clause-no_write g c = λ eq. none-not_write eq
+
+pub returns-in_default-add_all-clause-placed : goal.returns-in_default-add_all-clause-placed
+returns-in_default-add_all-clause-placed g c = λ eq. none-not_place eq
