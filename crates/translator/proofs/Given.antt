@@ -1,5 +1,5 @@
 -- What one line gives, and which version is the next behind it.
-use Rattle.std.proofs.Common.{◌≡◌, ◌≢◌, ◌∙◌, ℕ, ◌+◌, ◌<◌, ◌≤◌, cond, ◌&&◌, not, true, false, List, [], ◌∷◌, length, Option, Some, None, Ok, Err, refl, ap, sym}
+use Rattle.std.proofs.Common.{◌≡◌, ◌∙◌, ℕ, ◌<◌, ◌≤◌, cond, ◌&&◌, not, true, false, List, [], ◌∷◌, length, Option, Some, None, Ok, Err, refl, ap, sym}
 use Rattle.std.proofs.lemmas.Bool.{le-leb, lt-leb}
 use Rattle.std.specs.Str.{chars, is_utf8}
 use Rattle.json.specs.Json.{value}

@@ -3,3 +3,4 @@ pub mod Translating
 pub mod Translated
 pub mod Scripts
 pub mod OneLine
+pub mod LeftOut

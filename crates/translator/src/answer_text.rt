@@ -84,7 +84,9 @@ pub(crate) fn left_out_text(
     if answers || translation.left_out.is_empty() {
         return Ok(Vec::new(alloc));
     }
-    let object = object_name(alloc, line)?;
+    let Ok(object) = object_name(alloc, line) else {
+        return Err(NoMemory);
+    };
     let mut text = TextBuilder::new(alloc);
     text.put_number(b"line ", number);
     put_object(&mut text, &object);

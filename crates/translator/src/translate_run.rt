@@ -60,20 +60,28 @@ fn translate_lines<R: Source, W: Sink, E: Sink>(
     ensures { IsStopped (manner_of plan.now) (use_of R.remaining R.failure_count source.old source.new)
         (use_of W.written W.failure_count out.old out.new) (use_of E.written E.failure_count err.old err.new) result }
 {
-    let mut reader = LineReader::new(alloc)?;
-    let mut line = Vec::with_capacity(alloc, MAX_KEPT)?;
+    let Ok(mut reader) = LineReader::new(alloc) else {
+        return Err(Stopped::By(Fault::Run(RunFault::NoMemory)));
+    };
+    let Ok(mut line) = Vec::with_capacity(alloc, MAX_KEPT) else {
+        return Err(Stopped::By(Fault::Run(RunFault::NoMemory)));
+    };
     let mut waits = Waiting::new(alloc);
     let mut number = 0u64;
     let mut version = 1u64;
     'lines: loop {
         waits.flush_if(!reader.has_line(), out, err)?;
-        if !reader.next_front(MAX_KEPT, source, &mut line, &waits.answers)? {
-            return waits.flush(out, err);
+        match reader.next_front(MAX_KEPT, source, &mut line, &waits.answers) {
+            Ok(true) => {}
+            Ok(false) => return waits.flush(out, err),
+            Err(fault) => return Err(Stopped::By(Fault::Run(fault))),
         }
         number += 1;
         if let Err(fault) = answer_line(alloc, plan, &line, number, &mut version, &mut waits) {
-            waits.flush(out, err)?;
-            return Err(Stopped::By(fault));
+            return match waits.flush(out, err) {
+                Ok(()) => Err(Stopped::By(fault)),
+                Err(stopped) => Err(stopped),
+            };
         }
     }
 }
@@ -173,8 +181,12 @@ fn wait_for(
     ensures kept { OnErr result ((waits.new.answers.items ≡ waits.old.answers.items)
         × (waits.new.left_out.items ≡ waits.old.left_out.items)) }
 {
-    let answer = answer_text(alloc, answers, translation)?;
-    let left_out = left_out_text(alloc, answers, number, line, translation)?;
+    let Ok(answer) = answer_text(alloc, answers, translation) else {
+        return Err(NoMemory);
+    };
+    let Ok(left_out) = left_out_text(alloc, answers, number, line, translation) else {
+        return Err(NoMemory);
+    };
     waits.add(&answer, &left_out)
 }
 

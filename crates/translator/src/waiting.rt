@@ -67,7 +67,9 @@ impl Waiting {
             × (self.new.left_out.items ≡ self.old.left_out.items)) }
     {
         let len = self.answers.len();
-        self.answers.extend_from_slice(answer)?;
+        let Ok(()) = self.answers.extend_from_slice(answer) else {
+            return Err(NoMemory);
+        };
         match self.left_out.extend_from_slice(left_out) {
             Ok(()) => Ok(()),
             Err(_) => {
