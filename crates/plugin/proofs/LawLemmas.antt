@@ -1,6 +1,6 @@
 -- Kits of the same plugins are alike, since a module has one image.
 use Rattle.std.proofs.Common.{◌≡◌, [], ◌∷◌, refl, sym, ◌∙◌}
-use Rattle.wbin.specs.Syntax.{module_of}
+use Rattle.wmodule.specs.Syntax.{module_of}
 use Rattle.whost.specs.Refused.{OneImage}
 use Rattle.plugin.specs.Plugins.{Configured}
 use Rattle.plugin.specs.Kit.{Ready, IsReadyOf}

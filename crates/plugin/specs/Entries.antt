@@ -1,7 +1,7 @@
 -- What a table of plugins is seen as.
 use Rattle.std.specs.Prelude.{List, map}
 use Rattle.std.specs.Arc.{arc_value}
-use Rattle.wbin.specs.Syntax.{ModuleParts}
+use Rattle.wmodule.specs.Syntax.{ModuleParts}
 use Rattle.plugin.specs.declared.plugins.Plugin.{Plugin}
 use Rattle.plugin.specs.declared.kits.Configuration.{Configuration}
 use Rattle.plugin.specs.Plugins.{Configured}

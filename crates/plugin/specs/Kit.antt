@@ -1,7 +1,7 @@
 -- What a kit is seen as, and what its plugins say.
 use Rattle.std.specs.Prelude.{◌≡◌, ℕ, List, map, ◌⊎◌, Option, Some, None, slice_get, slice_set}
 use Rattle.std.specs.List.{AllZip}
-use Rattle.wbin.specs.Syntax.{ModuleParts, module_of}
+use Rattle.wmodule.specs.Syntax.{ModuleParts, module_of}
 use Rattle.wstore.specs.Store.{Store}
 use Rattle.wmach.specs.declared.export.Export.{Export}
 use Rattle.wmach.specs.declared.export.Export.TheVariants as export

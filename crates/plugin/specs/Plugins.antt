@@ -1,7 +1,7 @@
 -- The plugins of a site, in the order in which they are configured.
 use Rattle.std.specs.Prelude.{◌≡◌, ℕ, ◌≤◌, ◌^◌, List, map, length, Some, slice_get}
 use Rattle.std.specs.List.{All, Contains}
-use Rattle.wbin.specs.Syntax.{ModuleParts}
+use Rattle.wmodule.specs.Syntax.{ModuleParts}
 
 -- a plugin: its name, how much its score counts, how much fuel its start function and each of its
 -- calls have, and its module

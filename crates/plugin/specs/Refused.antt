@@ -2,7 +2,7 @@
 -- each comes.
 use Rattle.std.specs.Prelude.{◌≡◌, ℕ, ◌<◌, List, length, take, Some, slice_get, codes}
 use Rattle.std.specs.List.{All}
-use Rattle.wbin.specs.Syntax.{module_of}
+use Rattle.wmodule.specs.Syntax.{module_of}
 use Rattle.wstore.specs.Store.{Store}
 use Rattle.whost.specs.Image.{IsImage}
 use Rattle.whost.specs.Refused.{WhyRefused}

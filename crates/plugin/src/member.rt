@@ -1,7 +1,7 @@
 //! A plugin of a kit: its instance, and how it is asked.
 ghost use Rattle.std.specs.Prelude.{◌≡◌, ◌↔◌, IfErr, IfOk, IfSome, IsSome, IsTrue};
 ghost use Rattle.std.specs.Arc.{arc_value};
-ghost use Rattle.wbin.specs.Syntax.{module_of};
+ghost use Rattle.wmodule.specs.Syntax.{module_of};
 ghost use Rattle.whost.specs.Image.{IsImage};
 ghost use Rattle.whost.specs.declared.records.Records.{Records as Told};
 ghost use Rattle.whost.specs.declared.records.Versions.{Versions};

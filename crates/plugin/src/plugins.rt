@@ -1,7 +1,7 @@
 //! The plugins that a site configures.
 ghost use Rattle.std.specs.Prelude.{◌≡◌, ℕ, ◌≤◌, ◌<◌, List, ◌∷◌, ◌++◌, [], length, IfErr, IfOk, IfSome, OnErr, OnOk, Some, slice_get, IsSome, IsTrue, ◌↔◌};
 ghost use Rattle.std.specs.Arc.{arc_value};
-ghost use Rattle.wbin.specs.Syntax.{module_of};
+ghost use Rattle.wmodule.specs.Syntax.{module_of};
 ghost use Rattle.whost.specs.Refused.{WhyRefused};
 ghost use Rattle.plugin.specs.Plugins.{IsTaken, IsWeight, IsFuel};
 ghost use Rattle.plugin.specs.Entries.{configured_as};

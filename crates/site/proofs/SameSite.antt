@@ -2,8 +2,8 @@
 -- spell, their images and their fuels.
 use Rattle.std.proofs.Common.{◌≡◌, ◌∙◌, ℕ, zero, suc, Bool, true, List, [], ◌∷◌, map, Option, Some, None, IfSome, slice_get, inl, inr, refl, sym, subst, ap, arith}
 use Rattle.std.proofs.lemmas.Option.{none-some, same_Some}
-use Rattle.wbin.specs.Syntax.{ModuleSyntax, module_of}
-use Rattle.wbin.specs.Grammar.{Spells}
+use Rattle.wmodule.specs.Syntax.{ModuleSyntax, module_of}
+use Rattle.wmodule.specs.Grammar.{Spells}
 use Rattle.wmach.specs.declared.export.Export.{Export}
 use Rattle.wmach.specs.declared.export.Export.TheVariants as export
 use Rattle.wmach.specs.declared.outcome.Outcome.{Outcome}

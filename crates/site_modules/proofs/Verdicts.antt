@@ -9,8 +9,8 @@ use Rattle.wcode.specs.Fault as bin
 use Rattle.wcode.specs.declared.fault.Kind.{Kind}
 use Rattle.wcode.specs.declared.fault.BinFault.{BinFault}
 use Rattle.wcode.specs.declared.fault.BinFault.TheVariants as bin_fault
-use Rattle.wbin.specs.Syntax.{ModuleSyntax}
-use Rattle.wbin.specs.Grammar.{Spells}
+use Rattle.wmodule.specs.Syntax.{ModuleSyntax}
+use Rattle.wmodule.specs.Grammar.{Spells}
 use Rattle.wbody.specs.Fault as type
 use Rattle.wbody.specs.declared.fault.TypeFault.{TypeFault}
 use Rattle.wbody.specs.declared.fault.TypeFault.TheVariants as type_fault

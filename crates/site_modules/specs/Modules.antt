@@ -1,8 +1,8 @@
 -- A site's plugins: what the words configure, with what the files have.
 use Rattle.std.specs.Prelude.{◌≡◌, ◌≢◌, ◌⊎◌, ◌<◌, ℕ, List, [], ◌∷◌, length, map, take, Option, Some, IfSome, slice_get}
 use Rattle.std.specs.List.{All, AllZip}
-use Rattle.wbin.specs.Syntax.{module_of}
-use Rattle.wbin.specs.Grammar.{Spells}
+use Rattle.wmodule.specs.Syntax.{module_of}
+use Rattle.wmodule.specs.Grammar.{Spells}
 use Rattle.wtype.specs.Accepted.{Accepted}
 use Rattle.whost.specs.declared.fault.InstanceFault.TheVariants as instance_fault
 use Rattle.plugin.specs.declared.fault.KitFault.{KitFault}

@@ -2,8 +2,8 @@
 use Rattle.std.specs.Prelude.{◌≡◌, ◌≢◌, ℕ, List, ◌++◌, codes, take, Option}
 use Rattle.std.specs.Io.KnownBytes.{Appends}
 use Rattle.wcode.specs.declared.fault.BinFault.TheVariants as bin_fault
-use Rattle.wbin.specs.Syntax.{ModuleSyntax}
-use Rattle.wbin.specs.Grammar.{Spells}
+use Rattle.wmodule.specs.Syntax.{ModuleSyntax}
+use Rattle.wmodule.specs.Grammar.{Spells}
 use Rattle.wbody.specs.declared.fault.TypeFault.TheVariants as type_fault
 use Rattle.wtype.specs.Accepted as accepted
 use Rattle.wtype.specs.Refused.{WhyRefused}

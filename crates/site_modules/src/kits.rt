@@ -1,7 +1,7 @@
 //! A site's plugins: from what the words configure and what the files have to kits.
 ghost use Rattle.std.specs.Prelude.{◌≡◌, ◌<◌, ◌^◌, length, map, IfErr, IfOk, IfSome, OnOk};
-ghost use Rattle.wbin.specs.Syntax.{module_of};
-ghost use Rattle.wbin.specs.Grammar.{Spells};
+ghost use Rattle.wmodule.specs.Syntax.{module_of};
+ghost use Rattle.wmodule.specs.Grammar.{Spells};
 ghost use Rattle.wtype.specs.Accepted.{Accepted};
 ghost use Rattle.plugin.specs.Entries.{configuration_of, configurations_of};
 ghost use Rattle.plugin.specs.Kit.{rules_of};

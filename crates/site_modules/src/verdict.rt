@@ -1,15 +1,16 @@
 //! What is found of a module, and the line that tells it.
 ghost use Rattle.std.specs.Prelude.{◌≡◌, ◌≢◌, ◌⊎◌, IfErr, IfOk};
-ghost use Rattle.wbin.specs.Grammar.{Spells};
-ghost use Rattle.wbin.specs.Syntax.{module_of};
+ghost use Rattle.wmodule.specs.Grammar.{Spells};
+ghost use Rattle.wmodule.specs.Syntax.{module_of};
 ghost use Rattle.wtype.specs.Accepted as accepted;
 ghost use Rattle.fault_line.specs.declared.refusal.Refusal.TheVariants.{Undecoded, Untyped};
 ghost use Rattle.site_modules.specs.Verdict.{IsUnaccepted, IsVerdictOn, status_for, verdict_line};
 
 use fault_line::{Message, Refusal, push, push_refusal};
 use std::alloc::{AllocError, Global};
-use wbin::{Module, decode};
+use wbin::decode;
 use wcode::BinFault;
+use wmodule::Module;
 use wtype::{Checked, TypeFault, validate};
 
 /// What is found of a module.

@@ -4,9 +4,9 @@ use Rattle.std.proofs.Math.ListN.{drop_of_length-le}
 use Rattle.wcode.specs.declared.value.ValueType.{ValueType}
 use Rattle.wcode.specs.Syntax.{Body}
 use Rattle.wcode.specs.Grammar.{SpellsExpr}
-use Rattle.wbin.specs.declared.module.LocalRun.{LocalRun}
-use Rattle.wbin.specs.Syntax.{Code, locals_of}
-use Rattle.wbin.specs.Grammar.{SpellsVector, SpellsBytes, SpellsRun, run_locals, SpellsCode}
+use Rattle.wmodule.specs.declared.module.LocalRun.{LocalRun}
+use Rattle.wmodule.specs.Syntax.{Code, locals_of}
+use Rattle.wmodule.specs.Grammar.{SpellsVector, SpellsBytes, SpellsRun, run_locals, SpellsCode}
 use Rattle.wbin.specs.inside.Reading.{Nothing, Once, SpellsBoth}
 use Rattle.wbin.specs.inside.Codes.{Fills}
 use Rattle.wbin.specs.inside.Unique.{bytes_once, both_once, vector_once, run_once, expression_once}

@@ -7,16 +7,16 @@ use Rattle.wcode.specs.declared.fault.BinFault.TheVariants.{NoMemory}
 use Rattle.wcode.specs.Grammar.{SpellsIndex}
 use Rattle.wcode.proofs.Words.{index_once}
 use Rattle.wbin.specs.declared.section.Stretch.{Stretch}
-use Rattle.wbin.specs.Syntax.{ModuleSyntax, FunctionSyntax, ModuleParts, functions_with, code_in, syntax_in, module_of}
-use Rattle.wbin.specs.Placed.{Stands}
+use Rattle.wmodule.specs.Syntax.{ModuleSyntax, FunctionSyntax, ModuleParts, functions_with, code_in, syntax_in, module_of}
+use Rattle.wmodule.specs.Placed.{Stands}
 use Rattle.std.proofs.lemmas.List.{map-id, length-map}
-use Rattle.wbin.specs.Grammar.{Spelling, SpellsEach, SpellsVector, Section, SpellsSection, contents_of, Lists, Starts, Functions, Assembles, header, Spells, SpellsFunctionType, SpellsImport, SpellsTableType, SpellsLimits, SpellsGlobal, SpellsExport, SpellsElement, SpellsData, SpellsCode}
+use Rattle.wmodule.specs.Grammar.{Spelling, SpellsEach, SpellsVector, Section, SpellsSection, contents_of, Lists, Starts, Functions, Assembles, header, Spells, SpellsFunctionType, SpellsImport, SpellsTableType, SpellsLimits, SpellsGlobal, SpellsExport, SpellsElement, SpellsData, SpellsCode}
 use Rattle.wbin.specs.inside.Reading.{Once}
 use Rattle.wbin.specs.inside.Unique.{vector_once, index_spelled_once, function_type_once, import_once, table_type_once, limits_once, global_once, export_once, element_once, data_once, code_once}
 use Rattle.wbin.specs.inside.Outline.{section_of, OutlinesUpTo}
 use Rattle.wbin.specs.inside.Decoded.{ReadsWhole, AssemblesTo}
-use Rattle.wbin.specs.declared.module.Tables.{Tables}
-use Rattle.wbin.specs.declared.module.FunctionCode.{FunctionCode}
+use Rattle.wmodule.specs.declared.module.Tables.{Tables}
+use Rattle.wmodule.specs.declared.module.FunctionCode.{FunctionCode}
 use Rattle.std.proofs.lemmas.List.{length-take-le}
 use Rattle.std.specs.Prelude.{IfOk, IfErr}
 use Rattle.wbin.proofs.Sections.{sections_once}

@@ -8,11 +8,11 @@ use Rattle.wcode.specs.Grammar.{end, SpellsExpr}
 use Rattle.wcode.specs.Blocks.{HasBlocks}
 use Rattle.wcode.proofs.BlockLists.{blocks_spell}
 use Rattle.wcode.proofs.BodyRead.{body_is}
-use Rattle.wbin.specs.declared.module.Place.{Place}
-use Rattle.wbin.specs.declared.module.FunctionCode.{FunctionCode}
-use Rattle.wbin.specs.Syntax.{expression_in, code_in}
-use Rattle.wbin.specs.Grammar.{Spelling, SpellsBytes, SpellsVector, SpellsRun, SpellsCode}
-use Rattle.wbin.specs.Placed.{StandsAt, IsCode}
+use Rattle.wmodule.specs.declared.module.Place.{Place}
+use Rattle.wmodule.specs.declared.module.FunctionCode.{FunctionCode}
+use Rattle.wmodule.specs.Syntax.{expression_in, code_in}
+use Rattle.wmodule.specs.Grammar.{Spelling, SpellsBytes, SpellsVector, SpellsRun, SpellsCode}
+use Rattle.wmodule.specs.Placed.{StandsAt, IsCode}
 use Rattle.wbin.specs.inside.Reading.{Keeps, Reads}
 use Rattle.wbin.specs.inside.Codes.{Fills, ReadsCode}
 use Rattle.wbin.specs.inside.Kept.{code_kept}

@@ -7,7 +7,7 @@ use Rattle.std.proofs.Math.ListN.{drop_of_length-le}
 use Rattle.wcode.specs.declared.fault.BinFault.{BinFault}
 use Rattle.wcode.specs.declared.fault.BinFault.TheVariants.{NoMemory}
 use Rattle.wbin.specs.declared.section.Stretch.{Stretch}
-use Rattle.wbin.specs.Grammar.{SpellsEach, SpellsBytes, SpellsName, Section, SpellsSection, InOrder}
+use Rattle.wmodule.specs.Grammar.{SpellsEach, SpellsBytes, SpellsName, Section, SpellsSection, InOrder}
 use Rattle.wbin.specs.inside.Reading.{Nothing}
 use Rattle.wbin.specs.inside.Unique.{byte_once, bytes_once, section_once}
 use Rattle.wbin.specs.inside.Outline.{section_of, MayFollow, Within, ReadsStretch, OutlinesUpTo}

@@ -6,7 +6,7 @@ use Rattle.leb.proofs.Grammar.{spelling_shorter}
 use Rattle.std.specs.Str.{IsUtf8}
 use Rattle.wcode.specs.Grammar.{SpellsIndex}
 use Rattle.wcode.proofs.Words.{index_once}
-use Rattle.wbin.specs.Grammar.{SpellsBytes, SpellsName}
+use Rattle.wmodule.specs.Grammar.{SpellsBytes, SpellsName}
 use Rattle.wbin.specs.inside.Reading.{Nothing}
 use Rattle.wbin.specs.inside.Unique.{bytes_once}
 

@@ -3,9 +3,9 @@ use Rattle.std.proofs.Common.{◌≡◌, ◌≢◌, ℕ, ◌+◌, inl, inr, List
 use Rattle.wcode.specs.declared.value.ValueType.{ValueType}
 use Rattle.wcode.specs.Grammar.{SpellsIndex}
 use Rattle.wcode.proofs.Words.{index_once}
-use Rattle.wbin.specs.declared.module.Limits.{Limits}
-use Rattle.wbin.specs.declared.module.ImportKind.TheVariants as imported
-use Rattle.wbin.specs.Grammar.{Byte, SpellsEach, SpellsVector, SpellsValueType, SpellsResults, SpellsFunctionType, SpellsLimits, SpellsTableType, SpellsGlobalType, import_byte, SpellsImportKind}
+use Rattle.wmodule.specs.declared.module.Limits.{Limits}
+use Rattle.wmodule.specs.declared.module.ImportKind.TheVariants as imported
+use Rattle.wmodule.specs.Grammar.{Byte, SpellsEach, SpellsVector, SpellsValueType, SpellsResults, SpellsFunctionType, SpellsLimits, SpellsTableType, SpellsGlobalType, import_byte, SpellsImportKind}
 use Rattle.wbin.specs.inside.Reading.{Nothing, Reads, SpellsBoth}
 use Rattle.wcode.specs.declared.fault.BinFault.{BinFault}
 use Rattle.wbin.specs.inside.Unique.{byte_once}

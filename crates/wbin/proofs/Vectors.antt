@@ -3,7 +3,7 @@ use Rattle.std.proofs.Common.{◌≡◌, ℕ, ◌+◌, ◌<◌, ◌≤◌, List,
 use Rattle.wcode.specs.declared.fault.BinFault.{BinFault}
 use Rattle.wcode.specs.Grammar.{SpellsIndex}
 use Rattle.wcode.proofs.Words.{index_once}
-use Rattle.wbin.specs.Grammar.{Spelling, SpellsEach, SpellsVector}
+use Rattle.wmodule.specs.Grammar.{Spelling, SpellsEach, SpellsVector}
 use Rattle.wbin.specs.inside.Reading.{Nothing, Once, Reads, SpellsBoth, SpellsMany}
 
 -- one more behind

@@ -1,4 +1,1 @@
-pub mod Syntax
-pub mod Grammar
-pub mod Placed
 pub mod inside

@@ -3,19 +3,19 @@
 
 ghost use Rattle.std.specs.Prelude.{◌≡◌, ◌≢◌, ℕ, ◌+◌, ◌<◌, ◌≤◌, List, [], length, take, drop, map, IfOk};
 ghost use Rattle.wcode.specs.declared.fault.BinFault.TheVariants.{NoMemory};
-ghost use Rattle.wbin.specs.Syntax.{Code, code_in};
-ghost use Rattle.wbin.specs.Grammar.{SpellsCode};
-ghost use Rattle.wbin.specs.Placed.{IsCode};
+ghost use Rattle.wmodule.specs.Syntax.{Code, code_in};
+ghost use Rattle.wmodule.specs.Grammar.{SpellsCode};
+ghost use Rattle.wmodule.specs.Placed.{IsCode};
 ghost use Rattle.wbin.specs.inside.Reading.{Nothing, Once, Keeps, Reads};
 ghost use Rattle.wbin.specs.inside.Codes.{ReadsCode};
 ghost use Rattle.wbin.specs.inside.Unique.{code_once};
 ghost use Rattle.wbin.specs.inside.Kept.{code_kept};
 
-use crate::module::{FunctionCode, LocalRun, Place};
 use crate::placed::Part;
 use crate::placeless::{Entry, Many, malformed, read_sized};
 use std::alloc::Global;
 use wcode::{BinFault, Kind, skip_expr};
+use wmodule::{FunctionCode, LocalRun, Place};
 
 impl Part for FunctionCode {
     type Out = FunctionCode;

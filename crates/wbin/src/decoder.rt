@@ -3,23 +3,23 @@
 
 ghost use Rattle.std.specs.Prelude.{◌≡◌, ◌≢◌, ℕ, ◌<◌, ◌≤◌, List, [], ◌∷◌, ◌++◌, All, length, take, drop, map, find, ◌==◌, Option, Some, None, IfOk, IfErr, OnErr};
 ghost use Rattle.wcode.specs.declared.fault.BinFault.TheVariants.{NoMemory};
-ghost use Rattle.wbin.specs.Syntax.{ModuleSyntax, module_of};
-ghost use Rattle.wbin.specs.Grammar.{Lists, Starts, contents_of, header, Spells};
-ghost use Rattle.wbin.specs.Placed.{Stands};
+ghost use Rattle.wmodule.specs.Syntax.{ModuleSyntax, module_of};
+ghost use Rattle.wmodule.specs.Grammar.{Lists, Starts, contents_of, header, Spells};
+ghost use Rattle.wmodule.specs.Placed.{Stands};
 ghost use Rattle.wbin.specs.inside.Ids.{id_of};
 ghost use Rattle.wbin.specs.inside.Outline.{section_of, Within};
 ghost use Rattle.wbin.specs.inside.Decoded.{ReadsWhole, AssemblesTo};
 
-use crate::module::{
-    DataSegment, ElementSegment, Export, FunctionCode, FunctionType, GlobalVariable, Import,
-    Limits, Module, Tables,
-};
 use crate::placed::{Part, Plain, Vector};
 use crate::placeless::{malformed, truncated};
 use crate::section::{SectionId, Stretch, fenced, find_sections};
 use crate::types::TableType;
 use std::alloc::Global;
 use wcode::{BinFault, Kind};
+use wmodule::{
+    DataSegment, ElementSegment, Export, FunctionCode, FunctionType, GlobalVariable, Import,
+    Limits, Module, Tables,
+};
 
 /// How many bytes a module has at most.
 pub const LONGEST: usize = 1_048_576;

@@ -2,10 +2,10 @@
 
 ghost use Rattle.std.specs.Prelude.{◌≡◌, ℕ, List, Some};
 ghost use Rattle.std.specs.List.{slice_get};
-ghost use Rattle.wbin.specs.declared.module.FunctionCode.{FunctionCode};
-ghost use Rattle.wbin.specs.declared.module.Tables.{Tables};
-ghost use Rattle.wbin.specs.Syntax.{ModuleSyntax, function_with, code_in, syntax_in};
-ghost use Rattle.wbin.specs.Grammar.{Spells};
+ghost use Rattle.wmodule.specs.declared.module.FunctionCode.{FunctionCode};
+ghost use Rattle.wmodule.specs.declared.module.Tables.{Tables};
+ghost use Rattle.wmodule.specs.Syntax.{ModuleSyntax, function_with, code_in, syntax_in};
+ghost use Rattle.wmodule.specs.Grammar.{Spells};
 
 /// Bytes spell one module at most.
 pub fn one_module()

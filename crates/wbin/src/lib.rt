@@ -1,9 +1,7 @@
-//! WebAssembly modules (WebAssembly Core 1.0, 2.5 and 5.5): a module is its bytes, and tables of
-//! what it has and where that is in them. Here are the decoder, which finds a module in bytes or
-//! tells why they spell none, and the law that they spell one at most. No tree of instructions is
-//! made: what the places spell is said by contract.
+//! The decoder of WebAssembly modules (WebAssembly Core 1.0, 5.5), which finds a module in bytes or
+//! tells why they spell none, and the law that they spell one at most. What a module is says
+//! `wmodule`.
 //!
-//! - `module` has the types: what a module is, and where in the bytes its parts are.
 //! - `section` finds where each section stands, before any is read.
 //! - `placeless` reads things that the bytes alone tell, as a name; `placed` things that tell where
 //!   they stand, as an expression; both have vectors of them.
@@ -14,7 +12,6 @@
 mod code;
 mod decoder;
 mod laws;
-mod module;
 mod placed;
 mod placeless;
 mod section;
@@ -23,7 +20,7 @@ mod types;
 
 pub use decoder::{LONGEST, decode};
 pub use laws::{function_at_index, one_module};
-pub use module::{
+pub use wmodule::{
     DataSegment, ElementSegment, Export, ExportKind, FunctionCode, FunctionType, GlobalType,
     GlobalVariable, Import, ImportKind, Limits, LocalRun, Module, Place, Tables,
 };

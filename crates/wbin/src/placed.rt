@@ -5,18 +5,18 @@ ghost use Rattle.std.specs.Prelude.{◌≡◌, ◌≢◌, ℕ, ◌+◌, ◌<◌,
 ghost use Rattle.wcode.specs.declared.fault.BinFault.TheVariants.{NoMemory};
 ghost use Rattle.wcode.specs.Grammar.{SpellsIndex, SpellsExpr};
 ghost use Rattle.wcode.specs.Syntax.{Body};
-ghost use Rattle.wbin.specs.Syntax.{expression_in, contents_in};
-ghost use Rattle.wbin.specs.Grammar.{SpellsBytes, SpellsVector};
-ghost use Rattle.wbin.specs.Placed.{IsExpression, IsStretch};
+ghost use Rattle.wmodule.specs.Syntax.{expression_in, contents_in};
+ghost use Rattle.wmodule.specs.Grammar.{SpellsBytes, SpellsVector};
+ghost use Rattle.wmodule.specs.Placed.{IsExpression, IsStretch};
 ghost use Rattle.wbin.specs.inside.Reading.{Nothing, Once, Keeps, Reads, SpellsBoth, SpellsMany};
 ghost use Rattle.wbin.specs.inside.Unique.{both_once, bytes_once, expression_once, vector_once};
 ghost use Rattle.wbin.specs.inside.Kept.{plain_kept, all_kept, both_kept, expression_kept, stretch_kept};
 
-use crate::module::Place;
 use crate::placeless::{Entry, read_bytes, read_index};
 use std::alloc::Global;
 use std::marker::PhantomData;
 use wcode::{BinFault, skip_expr};
+use wmodule::Place;
 
 /// A kind of things, each of which is spelled in one way only. What is read of one may have places
 /// in the bytes, so that what it is seen as depends on them; it stays the same where more bytes

@@ -5,7 +5,7 @@
 ghost use Rattle.std.specs.Prelude.{◌≡◌, ◌≢◌, ℕ, ◌+◌, ◌-◌, ◌<◌, ◌≤◌, List, [], ◌∷◌, length, take, drop, map, IfOk, IfErr, OnErr};
 ghost use Rattle.wcode.specs.declared.fault.BinFault.TheVariants.{NoMemory};
 ghost use Rattle.wcode.specs.Grammar.{SpellsIndex};
-ghost use Rattle.wbin.specs.Grammar.{Byte, SpellsBytes, SpellsName, SpellsVector};
+ghost use Rattle.wmodule.specs.Grammar.{Byte, SpellsBytes, SpellsName, SpellsVector};
 ghost use Rattle.wbin.specs.inside.Reading.{Nothing, Once, Reads, SpellsBoth};
 ghost use Rattle.wbin.specs.inside.Unique.{both_once, index_spelled_once, vector_once};
 

@@ -3,7 +3,7 @@
 
 ghost use Rattle.std.specs.Prelude.{◌≡◌, ◌≢◌, ℕ, ◌+◌, ◌-◌, ◌<◌, ◌≤◌, ◌⊎◌, ◌↔◌, List, [], length, take, drop, map, IsTrue, IfOk, IfErr, OnErr};
 ghost use Rattle.wcode.specs.declared.fault.BinFault.TheVariants.{NoMemory};
-ghost use Rattle.wbin.specs.Grammar.{Section, SpellsName, SpellsSection};
+ghost use Rattle.wmodule.specs.Grammar.{Section, SpellsName, SpellsSection};
 ghost use Rattle.wbin.specs.inside.Outline.{Within, ReadsStretch, Outlines};
 ghost use Rattle.wbin.specs.inside.Ids.{id_of};
 ghost use Rattle.wbin.specs.inside.Reading.{Nothing};

@@ -5,21 +5,21 @@
 ghost use Rattle.std.specs.Prelude.{◌≡◌, ◌≢◌, ℕ, ◌+◌, ◌<◌, ◌≤◌, List, [], ◌∷◌, length, take, drop, map, IfOk};
 ghost use Rattle.wcode.specs.declared.value.ValueType.{ValueType};
 ghost use Rattle.wcode.specs.declared.fault.BinFault.TheVariants.{NoMemory};
-ghost use Rattle.wbin.specs.Syntax.{ImportSyntax, GlobalSyntax, ExportSyntax, ElementSyntax, DataSyntax, import_of, export_of, global_in, element_in, data_in};
-ghost use Rattle.wbin.specs.Grammar.{SpellsName, SpellsImport, SpellsGlobal, SpellsExport, SpellsElement, SpellsData, SpellsRun};
-ghost use Rattle.wbin.specs.Placed.{IsGlobal, IsElement, IsData};
+ghost use Rattle.wmodule.specs.Syntax.{ImportSyntax, GlobalSyntax, ExportSyntax, ElementSyntax, DataSyntax, import_of, export_of, global_in, element_in, data_in};
+ghost use Rattle.wmodule.specs.Grammar.{SpellsName, SpellsImport, SpellsGlobal, SpellsExport, SpellsElement, SpellsData, SpellsRun};
+ghost use Rattle.wmodule.specs.Placed.{IsGlobal, IsElement, IsData};
 ghost use Rattle.wbin.specs.inside.Reading.{Nothing, Once, Keeps, Reads, SpellsBoth};
 ghost use Rattle.wbin.specs.inside.Unique.{name_once, import_once, global_once, export_once, element_once, data_once, run_once};
 ghost use Rattle.wbin.specs.inside.Kept.{global_kept, element_kept, data_kept};
 
-use crate::module::{
-    DataSegment, ElementSegment, Export, ExportKind, GlobalType, GlobalVariable, Import,
-    ImportKind, LocalRun,
-};
 use crate::placed::{Contents, Expression, Part, Plain, Then};
 use crate::placeless::{Both, Entry, Many, read_name};
 use std::alloc::Global;
 use wcode::{BinFault, ValueType};
+use wmodule::{
+    DataSegment, ElementSegment, Export, ExportKind, GlobalType, GlobalVariable, Import,
+    ImportKind, LocalRun,
+};
 
 /// A name, in UTF-8.
 pub struct Name;

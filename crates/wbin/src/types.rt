@@ -3,19 +3,19 @@
 
 ghost use Rattle.std.specs.Prelude.{◌≡◌, ◌≢◌, ℕ, ◌+◌, ◌<◌, ◌≤◌, Bool, List, [], ◌∷◌, length, take, drop, map, Option, MatchOption};
 ghost use Rattle.wcode.specs.declared.value.ValueType.{ValueType};
-ghost use Rattle.wbin.specs.declared.module.Limits.{Limits};
-ghost use Rattle.wbin.specs.declared.module.GlobalType.{GlobalType};
-ghost use Rattle.wbin.specs.declared.module.ImportKind.{ImportKind};
-ghost use Rattle.wbin.specs.declared.module.ExportKind.{ExportKind};
-ghost use Rattle.wbin.specs.Syntax.{Signature, signature_of};
-ghost use Rattle.wbin.specs.Grammar.{Byte, value_type_byte, SpellsValueType, SpellsResults, SpellsFunctionType, SpellsLimits, SpellsTableType, mutable_byte, SpellsMutable, SpellsGlobalType, SpellsImportKind, export_byte, SpellsExportKind};
+ghost use Rattle.wmodule.specs.declared.module.Limits.{Limits};
+ghost use Rattle.wmodule.specs.declared.module.GlobalType.{GlobalType};
+ghost use Rattle.wmodule.specs.declared.module.ImportKind.{ImportKind};
+ghost use Rattle.wmodule.specs.declared.module.ExportKind.{ExportKind};
+ghost use Rattle.wmodule.specs.Syntax.{Signature, signature_of};
+ghost use Rattle.wmodule.specs.Grammar.{Byte, value_type_byte, SpellsValueType, SpellsResults, SpellsFunctionType, SpellsLimits, SpellsTableType, mutable_byte, SpellsMutable, SpellsGlobalType, SpellsImportKind, export_byte, SpellsExportKind};
 ghost use Rattle.wbin.specs.inside.Reading.{Nothing, Once, Reads};
 ghost use Rattle.wbin.specs.inside.Unique.{value_type_once, results_once, function_type_once, limits_once, table_type_once, mutable_once, global_type_once, import_kind_once, export_kind_once};
 
-use crate::module::{ExportKind, FunctionType, GlobalType, ImportKind, Limits};
 use crate::placeless::{Both, Entry, Many, byte_at, expect_byte, malformed, read_index};
 use std::alloc::Global;
 use wcode::{BinFault, Kind, ValueType};
+use wmodule::{ExportKind, FunctionType, GlobalType, ImportKind, Limits};
 
 /// A value type. Those of floats are refused as `Float`.
 impl Entry for ValueType {

@@ -7,11 +7,11 @@ use Rattle.std.proofs.lemmas.Option.{slice_get-map, slice_get-get_or}
 use Rattle.std.proofs.Math.ListN.{get_or-replicate}
 use Rattle.std.proofs.Math.Seq.{drop-cons}
 use Rattle.wcode.specs.declared.value.ValueType.{ValueType}
-use Rattle.wbin.specs.declared.module.Import.{Import}
-use Rattle.wbin.specs.declared.module.ImportKind.{ImportKind}
-use Rattle.wbin.specs.declared.module.ImportKind.TheVariants as imported
-use Rattle.wbin.specs.declared.module.LocalRun.{LocalRun}
-use Rattle.wbin.specs.Syntax.{Signature, import_of, locals_of}
+use Rattle.wmodule.specs.declared.module.Import.{Import}
+use Rattle.wmodule.specs.declared.module.ImportKind.{ImportKind}
+use Rattle.wmodule.specs.declared.module.ImportKind.TheVariants as imported
+use Rattle.wmodule.specs.declared.module.LocalRun.{LocalRun}
+use Rattle.wmodule.specs.Syntax.{Signature, import_of, locals_of}
 use Rattle.wbody.specs.declared.scope.Level.{Level}
 use Rattle.wbody.specs.Context.{at_most_one, imported_function, imported_functions}
 use Rattle.wbody.specs.Scope.{IsFunctionImport}

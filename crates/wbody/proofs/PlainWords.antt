@@ -20,7 +20,7 @@ use Rattle.wcode.specs.Grammar.{Word, one, SpellsWord}
 use Rattle.wcode.specs.Shown.{Shows}
 use Rattle.wcode.proofs.KnownWords.{known_word}
 use Rattle.wcode.proofs.Shorter.{word_shorter}
-use Rattle.wbin.specs.Syntax.{locals_of}
+use Rattle.wmodule.specs.Syntax.{locals_of}
 use Rattle.wbody.specs.declared.scope.Level.{Level}
 use Rattle.wbody.specs.declared.scope.Scope.{Scope}
 use Rattle.wbody.specs.declared.stop.Stop.{Stop}

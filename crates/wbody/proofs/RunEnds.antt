@@ -10,8 +10,8 @@ use Rattle.std.proofs.Math.Numerals.{one-add}
 use Rattle.std.proofs.lemmas.Bool.Decides.{leb_tells}
 use Rattle.std.proofs.lemmas.List.{append-nil, drop_all}
 use Rattle.wcode.specs.declared.value.ValueType.{ValueType}
-use Rattle.wbin.specs.declared.module.LocalRun.{LocalRun}
-use Rattle.wbin.specs.Syntax.{locals_of}
+use Rattle.wmodule.specs.declared.module.LocalRun.{LocalRun}
+use Rattle.wmodule.specs.Syntax.{locals_of}
 use Rattle.wbody.specs.inside.LocalEnds.{end_of, ends_from, ends_of}
 use Rattle.wbody.proofs.Found.{get_right, in_run, past_run}
 use Rattle.wbody.proofs.Halved.{count_cons, none_pass, partition_counts}

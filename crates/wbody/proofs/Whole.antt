@@ -11,15 +11,15 @@ use Rattle.wcode.specs.Grammar.{end, SpellsExpr}
 use Rattle.wcode.specs.declared.blocks.Block.{Block}
 use Rattle.wcode.specs.Blocks.{HasBlocks}
 use Rattle.wcode.proofs.BlockLists.{blocks_spell}
-use Rattle.wbin.specs.declared.module.Place.{Place}
-use Rattle.wbin.specs.declared.module.Tables.{Tables}
-use Rattle.wbin.specs.declared.module.FunctionType.{FunctionType}
-use Rattle.wbin.specs.declared.module.FunctionCode.{FunctionCode}
-use Rattle.wbin.specs.declared.module.GlobalVariable.{GlobalVariable}
-use Rattle.wbin.specs.declared.module.Import.{Import}
-use Rattle.wbin.specs.Syntax.{Signature, ImportSyntax, FunctionSyntax, GlobalSyntax, Code, function_with, functions_with, code_in, global_in, expression_in, signature_of, import_of, locals_of, syntax_in}
-use Rattle.wbin.specs.Placed.{IsCode}
-use Rattle.wbin.specs.Placed.{Stands as TablesStand}
+use Rattle.wmodule.specs.declared.module.Place.{Place}
+use Rattle.wmodule.specs.declared.module.Tables.{Tables}
+use Rattle.wmodule.specs.declared.module.FunctionType.{FunctionType}
+use Rattle.wmodule.specs.declared.module.FunctionCode.{FunctionCode}
+use Rattle.wmodule.specs.declared.module.GlobalVariable.{GlobalVariable}
+use Rattle.wmodule.specs.declared.module.Import.{Import}
+use Rattle.wmodule.specs.Syntax.{Signature, ImportSyntax, FunctionSyntax, GlobalSyntax, Code, function_with, functions_with, code_in, global_in, expression_in, signature_of, import_of, locals_of, syntax_in}
+use Rattle.wmodule.specs.Placed.{IsCode}
+use Rattle.wmodule.specs.Placed.{Stands as TablesStand}
 use Rattle.wbody.specs.declared.scope.Scope.{Scope}
 use Rattle.wbody.specs.declared.notes.Notes.{Notes}
 use Rattle.wbody.specs.Branches.{body_branches, notes_of}

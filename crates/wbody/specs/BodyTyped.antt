@@ -1,8 +1,8 @@
 -- What the typing of a function's body says.
 use Rattle.std.specs.Prelude.{◌≡◌, ℕ, [], Some, length, drop, slice_get}
 use Rattle.wcode.specs.Grammar.{SpellsExpr}
-use Rattle.wbin.specs.declared.module.FunctionCode.{FunctionCode}
-use Rattle.wbin.specs.Syntax.{Signature, FunctionSyntax, ModuleParts, module_of, ModuleSyntax}
+use Rattle.wmodule.specs.declared.module.FunctionCode.{FunctionCode}
+use Rattle.wmodule.specs.Syntax.{Signature, FunctionSyntax, ModuleParts, module_of, ModuleSyntax}
 use Rattle.wbody.specs.declared.notes.Notes.{Notes}
 use Rattle.wbody.specs.Context.{at_most_one, body_context}
 use Rattle.wbody.specs.Typing.{Typed}

@@ -3,10 +3,10 @@ use Rattle.std.specs.Prelude.{List, [], ◌∷◌, ◌++◌, Bool, true, false, 
 use Rattle.wcode.specs.declared.value.ValueType.{ValueType}
 use Rattle.wcode.specs.declared.value.BlockType.{BlockType}
 use Rattle.wcode.specs.declared.value.BlockType.TheVariants.{Empty, Result}
-use Rattle.wbin.specs.declared.module.GlobalType.{GlobalType}
-use Rattle.wbin.specs.declared.module.ImportKind.{ImportKind}
-use Rattle.wbin.specs.declared.module.ImportKind.TheVariants as imported
-use Rattle.wbin.specs.Syntax.{Signature, ImportSyntax, ModuleSyntax}
+use Rattle.wmodule.specs.declared.module.GlobalType.{GlobalType}
+use Rattle.wmodule.specs.declared.module.ImportKind.{ImportKind}
+use Rattle.wmodule.specs.declared.module.ImportKind.TheVariants as imported
+use Rattle.wmodule.specs.Syntax.{Signature, ImportSyntax, ModuleSyntax}
 
 -- The types of operands, the topmost first.
 abbrev pub Operands : Type 0

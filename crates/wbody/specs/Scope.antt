@@ -1,6 +1,6 @@
 -- What the code's scopes and open blocks are seen as.
-use Rattle.wbin.specs.declared.module.ImportKind.{ImportKind}
-use Rattle.wbin.specs.declared.module.ImportKind.TheVariants as imported
+use Rattle.wmodule.specs.declared.module.ImportKind.{ImportKind}
+use Rattle.wmodule.specs.declared.module.ImportKind.TheVariants as imported
 
 -- a function is imported, and nothing else
 abbrev pub IsFunctionImport : ImportKind → Type 0

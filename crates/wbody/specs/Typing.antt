@@ -14,7 +14,7 @@ use Rattle.wcode.specs.declared.instruction.Plain.{Plain}
 use Rattle.wcode.specs.declared.instruction.Plain.TheVariants as plains
 use Rattle.wcode.specs.Operators.{type_of, load_type, load_bytes, store_type, store_bytes}
 use Rattle.wcode.specs.Syntax.{Body, done, plain, block, loop, if_else, br_table}
-use Rattle.wbin.specs.Syntax.{Signature}
+use Rattle.wmodule.specs.Syntax.{Signature}
 use Rattle.wbody.specs.Context.{Operands, Context, at_most_one, results_of, with_label}
 
 -- ---- the table of the plain instructions

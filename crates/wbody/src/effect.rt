@@ -8,8 +8,8 @@ ghost use Rattle.wbody.specs.inside.Scope.{IsScope, labels_of, type_found, Names
 
 use crate::operand_stack::Effect;
 use crate::scope::{Level, Scope, alone, constant, may_access, moves, none_or_alone};
-use wbin::FunctionType;
 use wcode::{CvtOp, Plain, ValueType};
+use wmodule::FunctionType;
 
 // What an instruction does under these open blocks, the innermost last.
 pub fn effect_of<'a>(scope: &Scope<'a>, levels: &[Level], plain: Plain) -> Effect<'a>

@@ -2,7 +2,7 @@
 
 ghost use Rattle.std.specs.Prelude.{◌≡◌, ◌&&◌, ℕ, ◌+◌, ◌^◌, ◌<◌, ◌≤◌, [], ◌∷◌, ◌++◌, map, option_map, option_and_then, slice_get, length, nat_le, Some, None, IfOk};
 ghost use Rattle.wcode.specs.Operators.{load_bytes, store_bytes};
-ghost use Rattle.wbin.specs.Syntax.{signature_of, locals_of};
+ghost use Rattle.wmodule.specs.Syntax.{signature_of, locals_of};
 ghost use Rattle.wbody.specs.Context.{Context, at_most_one, results_of};
 ghost use Rattle.wbody.specs.Typing.{PlainType, takes_gives, only_where, plain_type, function_at, is_aligned, is_in_range};
 ghost use Rattle.wbody.specs.inside.Effect.{effect_type};
@@ -13,8 +13,8 @@ ghost use Rattle.std.specs.Prelude.{reverse};
 
 use crate::operand_stack::Effect;
 use std::alloc::{AllocError, Global};
-use wbin::{FunctionType, GlobalType, GlobalVariable, Import, ImportKind, LocalRun};
 use wcode::{BlockType, CvtOp, MemArg, Plain, Value, ValueType};
+use wmodule::{FunctionType, GlobalType, GlobalVariable, Import, ImportKind, LocalRun};
 
 // A block whose end is to come: what opened it and what it leaves, and of the block around it where
 // its operands begin and whether the place before this one is reached.

@@ -1,6 +1,6 @@
 -- Images are single, and refusals are of modules without one.
 use Rattle.std.proofs.Common.{◌≡◌, ℕ, All, Any, List, Option, Some, None, refl, sym, ◌∙◌, subst}
-use Rattle.wbin.specs.Syntax.{ModuleSyntax}
+use Rattle.wmodule.specs.Syntax.{ModuleSyntax}
 use Rattle.wstore.specs.Store.{first_store}
 use Rattle.wstore.specs.Segments.{ElementsFit, DataFits}
 use Rattle.wmach.specs.declared.outcome.Outcome.{Outcome}

@@ -1,7 +1,7 @@
 -- How an instance is made, and its calls, from what its machine does.
 use Rattle.std.proofs.Common.{◌≡◌, ◌≢◌, ℕ, zero, suc, Bool, true, false, List, Option, Some, None, IfSome, refl, sym, ap, ◌∙◌, subst, inl, inr}
 use Rattle.std.specs.Prelude.{◌⊎◌, if◌then◌else◌}
-use Rattle.wbin.specs.Syntax.{ModuleParts, ModuleSyntax, module_of}
+use Rattle.wmodule.specs.Syntax.{ModuleParts, ModuleSyntax, module_of}
 use Rattle.wstore.specs.Store.{first_store}
 use Rattle.wmach.specs.declared.export.Export.{Export}
 use Rattle.wmach.specs.declared.export.Export.TheVariants.{Filter, Score, Start}

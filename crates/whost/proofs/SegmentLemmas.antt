@@ -4,7 +4,7 @@ use Rattle.std.proofs.lemmas.Bool.{false≢true}
 use Rattle.std.proofs.lemmas.List.{length-map}
 use Rattle.std.proofs.lemmas.Option.{get_or_from_slice_get, slice_get_within}
 use Rattle.std.proofs.Math.Seq.{drop-cons}
-use Rattle.wbin.specs.Syntax.{ElementSyntax, DataSyntax, ModuleParts, module_of}
+use Rattle.wmodule.specs.Syntax.{ElementSyntax, DataSyntax, ModuleParts, module_of}
 use Rattle.wstore.specs.Store.{Store}
 use Rattle.wstore.specs.Segments.{ElementsFit, DataFits, with_elements, with_data, offset_of}
 use Rattle.wstore.proofs.Overwriting.{length-overwritten}

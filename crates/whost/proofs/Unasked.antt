@@ -9,7 +9,7 @@ use Rattle.wcode.specs.declared.value.Value.{Value}
 use Rattle.wcode.specs.declared.instruction.Plain.{Plain}
 use Rattle.wcode.specs.declared.instruction.Plain.TheVariants as instruction
 use Rattle.wcode.specs.Syntax.{Body, done, plain, block, loop, if_else, br_table}
-use Rattle.wbin.specs.Syntax.{ModuleSyntax}
+use Rattle.wmodule.specs.Syntax.{ModuleSyntax}
 use Rattle.wtype.specs.Accepted.{host_number}
 use Rattle.rules.specs.declared.trap.Trap.TheVariants.{NoRecord}
 use Rattle.wmach.specs.declared.outcome.Outcome.{Outcome}

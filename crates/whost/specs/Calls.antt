@@ -1,6 +1,6 @@
 -- Calls of an instance: each begins from the image.
 use Rattle.std.specs.Prelude.{◌≡◌, ℕ, Some}
-use Rattle.wbin.specs.Syntax.{module_of}
+use Rattle.wmodule.specs.Syntax.{module_of}
 use Rattle.wmach.specs.declared.export.Export.{Export}
 use Rattle.wmach.specs.declared.outcome.Outcome.{Outcome}
 use Rattle.wmach.specs.Outcome.{HasOutcome}

@@ -1,7 +1,7 @@
 -- What a module's calls begin from: its segments written, and its start function run (WebAssembly
 -- Core 1.0, 4.5.4).
 use Rattle.std.specs.Prelude.{◌≡◌, ℕ, List, Option, Some, None, All, fold}
-use Rattle.wbin.specs.Syntax.{ElementSyntax, DataSyntax, ModuleSyntax}
+use Rattle.wmodule.specs.Syntax.{ElementSyntax, DataSyntax, ModuleSyntax}
 use Rattle.wstore.specs.Store.{Store, first_store}
 use Rattle.wstore.specs.Segments.{ElementsFit, DataFits, with_elements, with_data}
 use Rattle.wmach.specs.declared.outcome.Outcome.{Outcome}

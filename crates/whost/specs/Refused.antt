@@ -1,6 +1,6 @@
 -- Why there is no instance of a module: the numbers and names of the refusals, and when each comes.
 use Rattle.std.specs.Prelude.{◌≡◌, ℕ, List, Any, All, codes}
-use Rattle.wbin.specs.Syntax.{ModuleSyntax}
+use Rattle.wmodule.specs.Syntax.{ModuleSyntax}
 use Rattle.wstore.specs.Store.{Store, first_store}
 use Rattle.wstore.specs.Segments.{ElementsFit, DataFits}
 use Rattle.wmach.specs.declared.outcome.Outcome.TheVariants as outcome

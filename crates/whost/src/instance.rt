@@ -1,7 +1,7 @@
 //! An instance: a module that is ready to be called.
 ghost use Rattle.std.specs.Prelude.{◌≡◌, ◌≢◌, ◌≤◌, ◌↔◌, IfErr, IfOk, IfSome, IsSome, IsTrue};
 ghost use Rattle.std.specs.Arc.{arc_value};
-ghost use Rattle.wbin.specs.Syntax.{module_of};
+ghost use Rattle.wmodule.specs.Syntax.{module_of};
 ghost use Rattle.wstore.specs.Fits.{StoreFits};
 ghost use Rattle.wmach.specs.Call.{called_function, first_machine, result_type, ResultFits};
 ghost use Rattle.wmach.specs.Outcome.{cost_of};

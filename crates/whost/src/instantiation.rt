@@ -1,6 +1,6 @@
 //! The steps that make a module an instance (WebAssembly Core 1.0, 4.5.4).
 ghost use Rattle.std.specs.Prelude.{◌≡◌, All, Any, Err, MatchBool, MatchResult, None};
-ghost use Rattle.wbin.specs.Syntax.{module_of};
+ghost use Rattle.wmodule.specs.Syntax.{module_of};
 ghost use Rattle.wstore.specs.Segments.{ElementsFit, DataFits};
 ghost use Rattle.whost.specs.Image.{InBounds, with_segments, with_all_elements, with_all_data, Started};
 ghost use Rattle.whost.specs.Refused.{BoundsRefused, StartRefused};

@@ -7,7 +7,7 @@ use Rattle.wcode.specs.declared.value.Value.{Value}
 use Rattle.wcode.specs.declared.instruction.Plain.TheVariants as plains
 use Rattle.wcode.specs.Syntax.{Body, plain}
 use Rattle.wcode.specs.Grammar.{one, SpellsWord}
-use Rattle.wbin.specs.Syntax.{Signature, FunctionSyntax}
+use Rattle.wmodule.specs.Syntax.{Signature, FunctionSyntax}
 use Rattle.wbody.specs.Context.{Operands, Context, at_most_one, function_types}
 use Rattle.wbody.specs.Typing.{takes_gives, call_type, function_at, of_found, plain_type, Typed}
 use Rattle.wbody.specs.Heights.{height_by}

@@ -16,7 +16,7 @@ use Rattle.wcode.specs.Syntax.{Body, plain}
 use Rattle.wcode.specs.Grammar.{one, SpellsWord}
 use Rattle.wmem.specs.Access.{byte_count, reading_of, value_read, with_bytes}
 use Rattle.wmem.specs.Memory.{page_size, pages_in, zeros}
-use Rattle.wbin.specs.Syntax.{ModuleSyntax}
+use Rattle.wmodule.specs.Syntax.{ModuleSyntax}
 use Rattle.wbody.specs.Context.{Context, is_there}
 use Rattle.wbody.specs.Typing.{PlainType, takes_gives, only_where, is_aligned, plain_type, TypeAllows, Weakened}
 use Rattle.wtype.specs.CheckedModule.{CheckedModule}

@@ -10,7 +10,7 @@ use Rattle.wcode.specs.declared.value.Value.TheVariants as value
 use Rattle.wcode.specs.declared.instruction.Plain.{Plain}
 use Rattle.wcode.specs.declared.instruction.Plain.TheVariants.{Br, Return, Const}
 use Rattle.wcode.specs.Syntax.{Body, done, plain, block, loop, if_else, br_table}
-use Rattle.wbin.specs.Syntax.{Signature, FunctionSyntax, ModuleSyntax}
+use Rattle.wmodule.specs.Syntax.{Signature, FunctionSyntax, ModuleSyntax}
 use Rattle.wbody.specs.Context.{Operands, Context, at_most_one, results_of, with_label}
 use Rattle.wbody.specs.Typing.{PlainType, is_in_range, only_where, TypeAllows, PlainTyped, Typed}
 use Rattle.wtype.specs.Accepted.{Accepted, FunctionTyped}

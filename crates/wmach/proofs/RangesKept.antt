@@ -18,8 +18,8 @@ use Rattle.wcode.specs.Operators.{load_type, store_type}
 use Rattle.wcode.specs.Syntax.{Body, done, plain, block, loop, if_else, br_table}
 use Rattle.wmem.specs.Access.{byte_count, with_bytes, reading_of, value_read}
 use Rattle.wmem.specs.Memory.{page_size, pages_in, zeros}
-use Rattle.wbin.specs.declared.module.Limits.{Limits}
-use Rattle.wbin.specs.Syntax.{Signature, ModuleSyntax}
+use Rattle.wmodule.specs.declared.module.Limits.{Limits}
+use Rattle.wmodule.specs.Syntax.{Signature, ModuleSyntax}
 use Rattle.wtype.specs.Accepted.{host_number}
 use Rattle.rules.specs.declared.trap.Trap.{Trap}
 use Rattle.rules.specs.declared.trap.Trap.TheVariants.{MemoryOutOfBounds}

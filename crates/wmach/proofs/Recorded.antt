@@ -4,10 +4,10 @@ use Rattle.std.specs.Prelude.{slice_get, map, option_map, IsSome}
 use Rattle.std.specs.List.{AllByRecursion}
 use Rattle.std.proofs.lemmas.List.{length-map, length-append}
 use Rattle.std.proofs.lemmas.Option.{slice_get-map}
-use Rattle.wbin.specs.declared.module.Import.{Import}
-use Rattle.wbin.specs.declared.module.ImportKind.{ImportKind}
-use Rattle.wbin.specs.declared.module.ImportKind.TheVariants as imported
-use Rattle.wbin.specs.Syntax.{ImportSyntax, ModuleSyntax, ModuleParts, module_of, import_of}
+use Rattle.wmodule.specs.declared.module.Import.{Import}
+use Rattle.wmodule.specs.declared.module.ImportKind.{ImportKind}
+use Rattle.wmodule.specs.declared.module.ImportKind.TheVariants as imported
+use Rattle.wmodule.specs.Syntax.{ImportSyntax, ModuleSyntax, ModuleParts, module_of, import_of}
 use Rattle.wtype.specs.Accepted.{ImportName, host_number, host_type, IsImportOf, ImportAllowed, ImportsRight}
 use Rattle.wtype.proofs.Sized.{with_last}
 use Rattle.wmach.specs.inside.Coded.{RecordsAgree}

@@ -8,7 +8,7 @@ use Rattle.wcode.specs.Operators.{type_of}
 use Rattle.wcode.specs.declared.value.Value.{Value}
 use Rattle.wcode.specs.declared.value.ValueType.{ValueType}
 use Rattle.wcode.specs.Syntax.{Body}
-use Rattle.wbin.specs.Syntax.{Signature, FunctionSyntax, ModuleSyntax, module_of}
+use Rattle.wmodule.specs.Syntax.{Signature, FunctionSyntax, ModuleSyntax, module_of}
 use Rattle.wbody.specs.Context.{Operands, at_most_one}
 use Rattle.wbody.specs.declared.trail.Branch.{Branch}
 use Rattle.wtype.specs.CheckedModule.{CheckedModule, NotesAgree}

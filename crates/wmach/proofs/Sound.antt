@@ -5,7 +5,7 @@ use Rattle.std.specs.Prelude.{slice_get, if◌then◌else◌, ◌&&◌}
 use Rattle.wcode.specs.declared.value.ValueType.{ValueType}
 use Rattle.wcode.specs.declared.value.Value.{Value}
 use Rattle.wcode.specs.Syntax.{Body}
-use Rattle.wbin.specs.Syntax.{ModuleSyntax}
+use Rattle.wmodule.specs.Syntax.{ModuleSyntax}
 use Rattle.wbody.specs.Context.{Operands, Context}
 use Rattle.wbody.specs.Typing.{PlainType, takes_gives, of_found, only_where, Rule, TypeAllows, Typed, Then}
 use Rattle.rules.specs.declared.trap.Trap.{Trap}

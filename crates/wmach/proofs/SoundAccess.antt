@@ -14,8 +14,8 @@ use Rattle.wcode.specs.Operators.{load_type, store_type}
 use Rattle.wcode.specs.Syntax.{Body}
 use Rattle.wmem.specs.Access.{reading_of, value_read, with_bytes}
 use Rattle.wmem.specs.Memory.{page_size, most_pages, pages_in, zeros}
-use Rattle.wbin.specs.declared.module.Limits.{Limits}
-use Rattle.wbin.specs.Syntax.{ModuleSyntax}
+use Rattle.wmodule.specs.declared.module.Limits.{Limits}
+use Rattle.wmodule.specs.Syntax.{ModuleSyntax}
 use Rattle.wbody.specs.Context.{Operands, is_there}
 use Rattle.wbody.specs.Typing.{Typed}
 use Rattle.rules.specs.declared.trap.Trap.TheVariants.{MemoryOutOfBounds}

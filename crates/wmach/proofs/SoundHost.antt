@@ -7,7 +7,7 @@ use Rattle.wcode.specs.declared.value.Value.{Value}
 use Rattle.wcode.specs.declared.value.Value.TheVariants as value
 use Rattle.wcode.specs.Syntax.{Body}
 use Rattle.wmem.specs.Access.{with_bytes}
-use Rattle.wbin.specs.Syntax.{ModuleSyntax}
+use Rattle.wmodule.specs.Syntax.{ModuleSyntax}
 use Rattle.wbody.specs.Context.{Operands, is_there}
 use Rattle.wbody.specs.Typing.{Typed}
 use Rattle.wtype.specs.Accepted.{ImportName, host_number}

@@ -6,8 +6,8 @@ use Rattle.wcode.specs.declared.value.ValueType.{ValueType}
 use Rattle.wcode.specs.declared.value.ValueType.TheVariants.{I32, I64}
 use Rattle.wcode.specs.declared.value.Value.{Value}
 use Rattle.wcode.specs.Syntax.{Body}
-use Rattle.wbin.specs.declared.module.Limits.{Limits}
-use Rattle.wbin.specs.Syntax.{Signature, ModuleSyntax}
+use Rattle.wmodule.specs.declared.module.Limits.{Limits}
+use Rattle.wmodule.specs.Syntax.{Signature, ModuleSyntax}
 use Rattle.wbody.specs.Context.{Operands, at_most_one, function_types, is_there}
 use Rattle.wbody.specs.Typing.{Typed}
 use Rattle.rules.specs.declared.trap.Trap.TheVariants.{UndefinedElement, UninitializedElement, SignatureMismatch}

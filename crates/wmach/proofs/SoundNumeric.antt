@@ -12,7 +12,7 @@ use Rattle.wcode.specs.declared.operator.TestOp.{TestOp}
 use Rattle.wcode.specs.declared.operator.RelOp.{RelOp}
 use Rattle.wcode.specs.declared.operator.CvtOp.{CvtOp}
 use Rattle.wcode.specs.Syntax.{Body}
-use Rattle.wbin.specs.Syntax.{ModuleSyntax}
+use Rattle.wmodule.specs.Syntax.{ModuleSyntax}
 use Rattle.wbody.specs.Context.{Operands}
 use Rattle.wbody.specs.Typing.{Typed}
 use Rattle.wmach.specs.Configuration.{Store, Execution, instructions, Reduction, leads_to}

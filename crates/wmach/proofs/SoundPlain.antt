@@ -12,7 +12,7 @@ use Rattle.wcode.specs.declared.instruction.Plain.{Plain}
 use Rattle.wcode.specs.declared.instruction.Plain.TheVariants as instruction
 use Rattle.wcode.specs.Operators.{type_of, load_type, load_bytes, store_type, store_bytes}
 use Rattle.wcode.specs.Syntax.{Body, done, plain, block, loop, if_else, br_table}
-use Rattle.wbin.specs.Syntax.{ModuleSyntax}
+use Rattle.wmodule.specs.Syntax.{ModuleSyntax}
 use Rattle.wbody.specs.Context.{Operands, Context, at_most_one, results_of, with_label, function_types, is_there}
 use Rattle.wbody.specs.Typing.{takes_gives, ends, of_found, only_where, is_in_range, function_at, call_type, is_aligned, TypeAllows, PlainTyped, BlockTyped, IfTyped, TableTyped, Typed, Then}
 use Rattle.rules.specs.declared.trap.Trap.TheVariants.{Unreachable}

@@ -8,8 +8,8 @@ use Rattle.wcode.specs.declared.value.Value.{Value}
 use Rattle.wcode.specs.declared.instruction.Plain.TheVariants.{LocalSet}
 use Rattle.wcode.specs.Operators.{type_of}
 use Rattle.wcode.specs.Syntax.{Body, plain}
-use Rattle.wbin.specs.declared.module.GlobalType.{GlobalType}
-use Rattle.wbin.specs.Syntax.{GlobalSyntax, ModuleSyntax}
+use Rattle.wmodule.specs.declared.module.GlobalType.{GlobalType}
+use Rattle.wmodule.specs.Syntax.{GlobalSyntax, ModuleSyntax}
 use Rattle.wbody.specs.Context.{Operands}
 use Rattle.wbody.specs.Typing.{takes_gives, of_found, TypeAllows, Typed}
 use Rattle.wmach.specs.Configuration.{Store, Execution, instructions, Reduction, leads_to}

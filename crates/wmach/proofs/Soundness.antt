@@ -9,7 +9,7 @@ use Rattle.wcode.specs.declared.value.Value.{Value}
 use Rattle.wcode.specs.declared.instruction.Plain.TheVariants.{Br, Return}
 use Rattle.wcode.specs.Operators.{type_of}
 use Rattle.wcode.specs.Syntax.{Body, done, plain, block, loop, if_else, br_table}
-use Rattle.wbin.specs.Syntax.{Signature, FunctionSyntax}
+use Rattle.wmodule.specs.Syntax.{Signature, FunctionSyntax}
 use Rattle.wbody.specs.Context.{Operands, at_most_one, body_context}
 use Rattle.wbody.specs.Typing.{ends, Typed}
 use Rattle.rules.specs.declared.trap.Trap.TheVariants.{CallDepth}

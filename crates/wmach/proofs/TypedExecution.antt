@@ -2,7 +2,7 @@
 use Rattle.std.proofs.Common.{◌≡◌, List, [], ◌∷◌, ◌++◌, Option, Some, length, reverse, map}
 use Rattle.std.specs.Prelude.{slice_get}
 use Rattle.wcode.specs.declared.value.ValueType.{ValueType}
-use Rattle.wbin.specs.Syntax.{Signature, ModuleSyntax}
+use Rattle.wmodule.specs.Syntax.{Signature, ModuleSyntax}
 use Rattle.wbody.specs.Context.{Operands, Context, at_most_one, function_types, is_there}
 use Rattle.wbody.specs.Typing.{Typed}
 use Rattle.wmach.specs.Configuration.{Execution, instructions, label, frame, invoke, trap}

@@ -18,7 +18,7 @@ use Rattle.wmem.specs.declared.access.Width.TheVariants.{One, Two, Four, Eight}
 use Rattle.wmem.specs.Bytes.{bytes_of}
 use Rattle.wmem.specs.Access.{reading_of, byte_count, value_read, with_bytes}
 use Rattle.wmem.specs.Memory.{page_size, pages_in, zeros}
-use Rattle.wbin.specs.Syntax.{ModuleSyntax}
+use Rattle.wmodule.specs.Syntax.{ModuleSyntax}
 use Rattle.wbody.specs.Context.{is_there}
 use Rattle.rules.specs.declared.trap.Trap.TheVariants.{MemoryOutOfBounds}
 use Rattle.wmach.specs.Configuration.{Store, instructions, trap, Reduction, leads_to}

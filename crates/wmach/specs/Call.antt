@@ -4,7 +4,7 @@ use Rattle.std.specs.List.{AllByRecursion}
 use Rattle.wcode.specs.declared.value.ValueType.{ValueType}
 use Rattle.wcode.specs.declared.value.ValueType.TheVariants.{I32, I64}
 use Rattle.wcode.specs.Operators.{type_of}
-use Rattle.wbin.specs.Syntax.{ModuleSyntax, ModuleParts, module_of}
+use Rattle.wmodule.specs.Syntax.{ModuleSyntax, ModuleParts, module_of}
 use Rattle.wtype.specs.Accepted.{Accepted, export_named, filter_name, score_name}
 use Rattle.wmach.specs.declared.export.Export.{Export}
 use Rattle.wmach.specs.declared.export.Export.TheVariants.{Filter, Score, Start}

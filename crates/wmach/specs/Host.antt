@@ -5,9 +5,9 @@ use Rattle.wcode.specs.declared.value.Value.{Value}
 use Rattle.wcode.specs.declared.value.Value.TheVariants as value
 use Rattle.wcode.specs.Syntax.{Body}
 use Rattle.wmem.specs.Access.{with_bytes}
-use Rattle.wbin.specs.declared.module.ImportKind.{ImportKind}
-use Rattle.wbin.specs.declared.module.ImportKind.TheVariants as imported
-use Rattle.wbin.specs.Syntax.{ImportSyntax, ModuleSyntax}
+use Rattle.wmodule.specs.declared.module.ImportKind.{ImportKind}
+use Rattle.wmodule.specs.declared.module.ImportKind.TheVariants as imported
+use Rattle.wmodule.specs.Syntax.{ImportSyntax, ModuleSyntax}
 use Rattle.wbody.specs.Context.{is_there}
 use Rattle.wtype.specs.Accepted.{ImportName, host_number}
 use Rattle.rules.specs.declared.trap.Trap.TheVariants.{HostOutOfBounds, NoRecord}

@@ -4,7 +4,7 @@ use Rattle.wcode.specs.declared.value.ValueType.{ValueType}
 use Rattle.wcode.specs.declared.value.ValueType.TheVariants.{I32}
 use Rattle.wcode.specs.declared.value.Value.{Value}
 use Rattle.wcode.specs.Syntax.{Body}
-use Rattle.wbin.specs.Syntax.{Signature, ModuleSyntax}
+use Rattle.wmodule.specs.Syntax.{Signature, ModuleSyntax}
 use Rattle.wbody.specs.Context.{function_types, is_there}
 use Rattle.wbody.specs.Pass.{same_type, same_types}
 use Rattle.rules.specs.declared.trap.Trap.TheVariants.{UndefinedElement, UninitializedElement, SignatureMismatch}

@@ -1,7 +1,7 @@
 //! What of a module can be called.
 
 ghost use Rattle.std.specs.Prelude.{◌≡◌};
-ghost use Rattle.wbin.specs.Syntax.{module_of};
+ghost use Rattle.wmodule.specs.Syntax.{module_of};
 ghost use Rattle.wmach.specs.Call.{called_function};
 
 use wtype::Checked;

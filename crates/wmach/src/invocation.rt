@@ -2,7 +2,7 @@
 
 ghost use Rattle.std.specs.Prelude.{◌≡◌, ℕ, ◌<◌, ◌≤◌, Option, Some, length, slice_get, vec_capacity};
 ghost use Rattle.wcode.specs.declared.value.Value.{Value as TheValue};
-ghost use Rattle.wbin.specs.Syntax.{module_of};
+ghost use Rattle.wmodule.specs.Syntax.{module_of};
 ghost use Rattle.wstore.specs.State.{StoreState};
 ghost use Rattle.wmach.specs.Call.{called_function, result_type, ResultFits};
 ghost use Rattle.wmach.specs.inside.Coded.{IsCoded};

@@ -2,7 +2,7 @@
 
 ghost use Rattle.std.specs.Prelude.{◌≡◌, ◌<◌, ◌↔◌, Some, length, slice_get, IfOk, IsSome, IsTrue};
 ghost use Rattle.std.specs.Arc.{arc_value};
-ghost use Rattle.wbin.specs.Syntax.{ElementSyntax, DataSyntax, module_of};
+ghost use Rattle.wmodule.specs.Syntax.{ElementSyntax, DataSyntax, module_of};
 ghost use Rattle.wstore.specs.Fits.{StoreFits};
 ghost use Rattle.wstore.specs.Segments.{ElementsFit, DataFits, with_elements, with_data};
 ghost use Rattle.wmach.specs.inside.Known.{IsChecked};

@@ -1,13 +1,13 @@
 //! Which records the functions that a module imports hand over.
 
 ghost use Rattle.std.specs.Prelude.{◌≡◌, ◌<◌, Some, length, slice_get, IfOk};
-ghost use Rattle.wbin.specs.Syntax.{module_of};
+ghost use Rattle.wmodule.specs.Syntax.{module_of};
 ghost use Rattle.wtype.specs.Accepted.{ImportsRight};
 ghost use Rattle.wmach.specs.inside.Coded.{RecordsAgree};
 ghost use Rattle.wmach.specs.Host.{imported_names};
 
 use std::alloc::{AllocError, Global};
-use wbin::{Import, Module};
+use wmodule::{Import, Module};
 use wtype::host_number;
 
 fn import_at(decoded: &Module, place: usize) -> &Import

@@ -2,12 +2,12 @@
 //! are, not by their indices.
 
 ghost use Rattle.std.specs.Prelude.{◌≡◌};
-ghost use Rattle.wbin.specs.Syntax.{signature_of};
+ghost use Rattle.wmodule.specs.Syntax.{signature_of};
 ghost use Rattle.wbody.specs.Pass.{same_type as defined_type, same_types as defined_types};
 ghost use Rattle.wmach.specs.Indirect.{same_result as defined_result, same_signature as defined_signature};
 
-use wbin::FunctionType;
 use wcode::ValueType;
+use wmodule::FunctionType;
 
 // One type is the other.
 fn same_type(a: ValueType, b: ValueType) -> bool

@@ -7,7 +7,7 @@ use Rattle.wcode.specs.declared.operator.BinOp.TheVariants as binary
 use Rattle.wcode.specs.declared.instruction.Plain.TheVariants.{Const, Call, CallIndirect, LocalGet, Binary, Return}
 use Rattle.wcode.specs.declared.value.BlockType.TheVariants.{Empty, Result}
 use Rattle.wcode.specs.Syntax.{Body, done, plain, block, if_else}
-use Rattle.wbin.specs.Syntax.{Signature, FunctionSyntax}
+use Rattle.wmodule.specs.Syntax.{Signature, FunctionSyntax}
 use Rattle.rules.specs.declared.trap.Trap.TheVariants as traps
 use Rattle.wmach.specs.declared.outcome.Outcome.{Outcome}
 use Rattle.wmach.specs.declared.outcome.Outcome.TheVariants as outcome

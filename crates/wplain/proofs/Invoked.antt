@@ -5,7 +5,7 @@ use Rattle.std.specs.Prelude.{slice_get, option_and_then, nat_lt, if◌then◌el
 use Rattle.std.proofs.lemmas.Bool.{lt-ltb, le-ltb}
 use Rattle.wcode.specs.declared.value.Value.{Value}
 use Rattle.wcode.specs.Syntax.{Body}
-use Rattle.wbin.specs.Syntax.{FunctionSyntax, Signature}
+use Rattle.wmodule.specs.Syntax.{FunctionSyntax, Signature}
 use Rattle.rules.specs.declared.trap.Trap.TheVariants.{CallDepth}
 use Rattle.wmach.specs.Configuration.{Store, Setting, Reduction, trap, leads_to}
 use Rattle.wmach.specs.Host.{reduce_import}

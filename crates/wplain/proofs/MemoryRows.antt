@@ -13,8 +13,8 @@ use Rattle.wnum.specs.Representation.{signed, from_signed}
 use Rattle.wnum.specs.Conversion.{extend_s, extend_u}
 use Rattle.wmem.specs.Access.{with_bytes}
 use Rattle.wmem.specs.Memory.{page_size, zeros}
-use Rattle.wbin.specs.declared.module.Limits.{Limits}
-use Rattle.wbin.specs.declared.module.ImportKind.TheVariants as imported
+use Rattle.wmodule.specs.declared.module.Limits.{Limits}
+use Rattle.wmodule.specs.declared.module.ImportKind.TheVariants as imported
 use Rattle.rules.specs.declared.trap.Trap.TheVariants as traps
 use Rattle.wmach.specs.declared.outcome.Outcome.{Outcome}
 use Rattle.wmach.specs.declared.outcome.Outcome.TheVariants as outcome

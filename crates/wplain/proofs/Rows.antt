@@ -17,7 +17,7 @@ use Rattle.wcode.specs.declared.operator.CvtOp.{CvtOp}
 use Rattle.wcode.specs.declared.operator.CvtOp.TheVariants as conversion
 use Rattle.wcode.specs.declared.instruction.Plain.TheVariants.{Unreachable, Br, BrIf, LocalGet, LocalSet, LocalTee, GlobalGet, GlobalSet, Select, Const, Unary, Binary, Test, Relation, Convert}
 use Rattle.wcode.specs.Syntax.{Body, done, plain, block, loop, br_table}
-use Rattle.wbin.specs.Syntax.{ModuleSyntax}
+use Rattle.wmodule.specs.Syntax.{ModuleSyntax}
 use Rattle.rules.specs.declared.trap.Trap.TheVariants as traps
 use Rattle.wmach.specs.declared.outcome.Outcome.{Outcome}
 use Rattle.wmach.specs.declared.outcome.Outcome.TheVariants as outcome

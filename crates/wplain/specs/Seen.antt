@@ -1,7 +1,7 @@
 -- What the evaluator's trees are seen as, in the definitions.
 use Rattle.std.specs.Prelude.{ℕ, zero, suc, List, [], Option, None, option_map, map}
 use Rattle.wcode.specs.Syntax.{Body, done, plain, block, loop, if_else, br_table}
-use Rattle.wbin.specs.Syntax.{FunctionSyntax, ModuleSyntax, signature_of, import_of}
+use Rattle.wmodule.specs.Syntax.{FunctionSyntax, ModuleSyntax, signature_of, import_of}
 use Rattle.wmach.specs.Configuration as machine
 use Rattle.wplain.specs.declared.code.Code.{Code}
 use Rattle.wplain.specs.declared.code.Code.TheVariants as code

@@ -3,9 +3,9 @@
 
 ghost use Rattle.std.specs.Prelude.{◌≡◌, ◌+◌, nat_le, ◌≤◌, ◌++◌, Some, List, IfOk, length, map, take, drop, reverse, slice_get, option_map, option_and_then};
 ghost use Rattle.wcode.specs.declared.value.Value.{Value as one_value};
-ghost use Rattle.wbin.specs.Syntax.{import_of, signature_of};
+ghost use Rattle.wmodule.specs.Syntax.{import_of, signature_of};
 ghost use Rattle.wbody.specs.Context.{imported_functions};
-ghost use Rattle.wbin.specs.Syntax.{Signature};
+ghost use Rattle.wmodule.specs.Syntax.{Signature};
 ghost use Rattle.wmach.specs.Configuration.{Store as machine_store};
 ghost use Rattle.wmach.specs.Indirect.{type_of_function, call_as as defined_call_as, call_element as defined_call_element, reduce_call_indirect};
 ghost use Rattle.wmach.specs.Host.{imported_names, hand_over as defined_hand_over, reduce_import};
@@ -27,10 +27,10 @@ use crate::store::{Store, byte_size};
 use crate::values::{pop_i32, push};
 use std::alloc::Global;
 use std::mem;
-use wbin::{FunctionType, Import, ImportKind};
 use wcode::{Value, ValueType};
 use wmach::{Trap, same_signature};
 use wmem::Memory;
+use wmodule::{FunctionType, Import, ImportKind};
 use wtype::host_number;
 
 // How many functions are imported. It gives up where they can't be counted.

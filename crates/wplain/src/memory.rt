@@ -16,10 +16,10 @@ use crate::setting::Program;
 use crate::stop::Stop;
 use crate::store::{Store, byte_size};
 use crate::values::{pop, pop_i32, push};
-use wbin::Limits;
 use wcode::{LoadOp, MemArg, Sign, StoreOp, Value, ValueType};
 use wmach::Trap;
 use wmem::{Load, Width};
+use wmodule::Limits;
 
 fn load_of(op: LoadOp) -> Load
     ensures { result ≡ defined_load op }

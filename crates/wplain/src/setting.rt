@@ -1,8 +1,8 @@
 //! What stays as it is while code runs.
 
 use crate::code::Code;
-use wbin::{FunctionType, Import, Limits};
 use wcode::ValueType;
+use wmodule::{FunctionType, Import, Limits};
 
 /// A function of a module: the index of its type, its locals behind the parameters, and its body.
 #[derive(Drop)]

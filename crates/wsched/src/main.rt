@@ -15,9 +15,9 @@
 //! read or a write failed.
 //!
 //! Here are the process's words, streams and files. What is done with them, from the words to the
-//! status, are functions over streams and files that are handed in (`program`): a run and a check by
-//! `site`, a storm by `storm_site`, a translation by `translator`, and what `live` answers by
-//! `live_site`.
+//! status, are functions over streams and files that are handed in (`program`): a run by `site`, a
+//! check by `site_modules`, a storm by `storm_site`, a translation by `translator`, and what `live`
+//! answers by `live_site`.
 #![tactic(auto)]
 
 mod program;

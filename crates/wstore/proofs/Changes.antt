@@ -9,9 +9,9 @@ use Rattle.wcode.specs.Operators.{type_of}
 use Rattle.wmem.specs.declared.trap.Trap.{Trap}
 use Rattle.wmem.specs.Memory.{MemoryInstance, IsMemory, new_memory, page_size}
 use Rattle.wmem.proofs.Buffers.{length-zeros}
-use Rattle.wbin.specs.declared.module.GlobalVariable.{GlobalVariable}
-use Rattle.wbin.specs.declared.module.Limits.{Limits}
-use Rattle.wbin.specs.Syntax.{ModuleParts, module_of}
+use Rattle.wmodule.specs.declared.module.GlobalVariable.{GlobalVariable}
+use Rattle.wmodule.specs.declared.module.Limits.{Limits}
+use Rattle.wmodule.specs.Syntax.{ModuleParts, module_of}
 use Rattle.wbody.specs.Context.{function_types}
 use Rattle.wtype.specs.Accepted.{Accepted}
 use Rattle.wstore.specs.declared.store.Store.TheInside.{Inside}

@@ -10,8 +10,8 @@ use Rattle.wcode.specs.declared.value.Value.{Value}
 use Rattle.wcode.specs.declared.value.Value.TheVariants as value
 use Rattle.wcode.specs.Operators.{type_of}
 use Rattle.wcode.specs.Syntax.{Body}
-use Rattle.wbin.specs.declared.module.GlobalVariable.{GlobalVariable}
-use Rattle.wbin.specs.Syntax.{GlobalSyntax, global_in, expression_in}
+use Rattle.wmodule.specs.declared.module.GlobalVariable.{GlobalVariable}
+use Rattle.wmodule.specs.Syntax.{GlobalSyntax, global_in, expression_in}
 use Rattle.wbody.specs.Typing.{is_in_range}
 use Rattle.wtype.specs.Accepted.{ConstantOf, GlobalTyped}
 use Rattle.wstore.specs.Values.{value_of, word_of, InRange, types_of, first_value}

@@ -4,8 +4,8 @@ use Rattle.std.specs.Prelude.{IfSome}
 use Rattle.std.specs.List.{AllByRecursion}
 use Rattle.std.proofs.lemmas.List.{length-replicate, length-map}
 use Rattle.wmem.specs.Memory.{page_size, zeros}
-use Rattle.wbin.specs.declared.module.Limits.{Limits}
-use Rattle.wbin.specs.Syntax.{ModuleSyntax}
+use Rattle.wmodule.specs.declared.module.Limits.{Limits}
+use Rattle.wmodule.specs.Syntax.{ModuleSyntax}
 use Rattle.wbody.specs.Context.{function_types}
 use Rattle.wtype.specs.Accepted.{LimitsRight, memory_range}
 use Rattle.wstore.specs.Store.{most_of, cap_of, first_memory, first_table}

@@ -5,7 +5,7 @@ use Rattle.wcode.specs.declared.value.Value.TheVariants.{I32, I64}
 use Rattle.wcode.specs.declared.instruction.Plain.TheVariants.{Const}
 use Rattle.wcode.specs.Syntax.{Body, done, plain}
 use Rattle.wmem.specs.Access.{with_bytes}
-use Rattle.wbin.specs.Syntax.{ElementSyntax, DataSyntax}
+use Rattle.wmodule.specs.Syntax.{ElementSyntax, DataSyntax}
 use Rattle.wstore.specs.Store.{Store}
 
 -- the place that a value gives, which is an i32

@@ -6,7 +6,7 @@ use Rattle.wcode.specs.Operators.{type_of}
 use Rattle.wmem.specs.declared.trap.Trap.{Trap}
 use Rattle.wmem.specs.Access.{with_bytes}
 use Rattle.wmem.specs.Memory.{page_size, pages_in, zeros}
-use Rattle.wbin.specs.Syntax.{ModuleSyntax, module_of}
+use Rattle.wmodule.specs.Syntax.{ModuleSyntax, module_of}
 use Rattle.wtype.specs.CheckedModule.{CheckedModule}
 use Rattle.wstore.specs.Values.{value_of}
 use Rattle.wstore.specs.Store.{Store, cap_of, first_store}

@@ -3,8 +3,8 @@
 use Rattle.std.specs.Prelude.{ℕ, ◌*◌, List, [], ◌∷◌, Option, Some, None, map, replicate, min}
 use Rattle.wcode.specs.declared.value.Value.{Value}
 use Rattle.wmem.specs.Memory.{page_size, most_pages}
-use Rattle.wbin.specs.declared.module.Limits.{Limits}
-use Rattle.wbin.specs.Syntax.{GlobalSyntax, ModuleSyntax}
+use Rattle.wmodule.specs.declared.module.Limits.{Limits}
+use Rattle.wmodule.specs.Syntax.{GlobalSyntax, ModuleSyntax}
 use Rattle.wstore.specs.Values.{first_value}
 
 -- The bytes of the memory, the globals, and for each element of the table the index of a function,

@@ -1,14 +1,14 @@
 //! The numbers of constant expressions: first values of globals, and offsets of segments.
 
 ghost use Rattle.std.specs.Prelude.{◌≡◌};
-ghost use Rattle.wbin.specs.Syntax.{expression_in};
-ghost use Rattle.wbin.specs.Placed.{IsExpression, IsGlobal};
+ghost use Rattle.wmodule.specs.Syntax.{expression_in};
+ghost use Rattle.wmodule.specs.Placed.{IsExpression, IsGlobal};
 ghost use Rattle.wstore.specs.Values.{word_of};
 ghost use Rattle.wstore.specs.inside.Words.{first_word_of};
 ghost use Rattle.wstore.specs.Segments.{place_of, offset_of};
 
-use wbin::{GlobalVariable, Module, Place};
 use wcode::{Value, read_constant};
+use wmodule::{GlobalVariable, Module, Place};
 
 // The number of a value.
 fn word(value: Value) -> u64

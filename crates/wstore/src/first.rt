@@ -2,15 +2,15 @@
 
 ghost use Rattle.std.specs.Prelude.{◌≡◌, ◌≤◌, All, map, IfOk};
 ghost use Rattle.std.specs.List.{AllByRecursion};
-ghost use Rattle.wbin.specs.Placed.{IsGlobal};
+ghost use Rattle.wmodule.specs.Placed.{IsGlobal};
 ghost use Rattle.wstore.specs.Store.{cap_of, first_table};
 ghost use Rattle.wstore.specs.inside.Store.{least_of};
 ghost use Rattle.wstore.specs.inside.Words.{first_word_of};
 
 use crate::constants::first_word;
 use std::alloc::{AllocError, Global};
-use wbin::{GlobalVariable, Limits, Module};
 use wmem::MAX_PAGES;
+use wmodule::{GlobalVariable, Limits, Module};
 
 /// The least size, or none where there is nothing of the kind.
 pub fn least(all: &[Limits]) -> u32

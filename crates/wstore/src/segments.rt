@@ -1,11 +1,11 @@
 //! A module's segments: where they begin, and what they write.
 
 ghost use Rattle.std.specs.Prelude.{◌≡◌, ◌+◌, ◌<◌, ◌≤◌, ◌↔◌, Some, length, slice_get, IsTrue};
-ghost use Rattle.wbin.specs.Syntax.{ElementSyntax, DataSyntax, module_of};
+ghost use Rattle.wmodule.specs.Syntax.{ElementSyntax, DataSyntax, module_of};
 ghost use Rattle.wstore.specs.Segments.{offset_of};
 
 use crate::constants::offset_at;
-use wbin::Module;
+use wmodule::Module;
 
 /// The offset of an element segment, and its functions.
 pub fn elements_of(decoded: &Module, segment: usize) -> (u32, &[u32])

@@ -7,7 +7,7 @@ ghost use Rattle.wmem.specs.declared.trap.Trap.TheVariants.{MemoryOutOfBounds, H
 ghost use Rattle.wmem.specs.Access.{LoadGives, byte_count, reading_of};
 ghost use Rattle.wmem.specs.Bytes.{bytes_of};
 ghost use Rattle.wmem.specs.Memory.{pages_in, IsMemory};
-ghost use Rattle.wbin.specs.Syntax.{ElementSyntax, DataSyntax};
+ghost use Rattle.wmodule.specs.Syntax.{ElementSyntax, DataSyntax};
 ghost use Rattle.wstore.specs.Values.{value_of, word_of, InRange};
 ghost use Rattle.wstore.specs.Fits.{StoreFits};
 ghost use Rattle.wstore.specs.Segments.{ElementsFit, DataFits, with_elements, with_data};

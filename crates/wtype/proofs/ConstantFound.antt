@@ -9,9 +9,9 @@ use Rattle.wcode.specs.Operators.{type_of}
 use Rattle.wcode.specs.Syntax.{Body, done, plain, constant_of}
 use Rattle.wcode.specs.Grammar.{SpellsExpr, end}
 use Rattle.wcode.proofs.BlockLists.{blocks_spell}
-use Rattle.wbin.specs.declared.module.Place.{Place}
-use Rattle.wbin.specs.Syntax.{expression_in}
-use Rattle.wbin.specs.Placed.{IsExpression}
+use Rattle.wmodule.specs.declared.module.Place.{Place}
+use Rattle.wmodule.specs.Syntax.{expression_in}
+use Rattle.wmodule.specs.Placed.{IsExpression}
 use Rattle.wbody.specs.Typing.{is_in_range}
 use Rattle.wtype.specs.Accepted.{ConstantOf}
 

@@ -8,10 +8,10 @@ use Rattle.wtype.proofs.Each.{at_place}
 use Rattle.std.specs.List.{AllByRecursion}
 use Rattle.std.proofs.lemmas.List.{length-map}
 use Rattle.std.proofs.lemmas.Option.{slice_get-map, slice_get-get_or, slice_get_past}
-use Rattle.wbin.specs.declared.module.Import.{Import}
-use Rattle.wbin.specs.declared.module.ImportKind.{ImportKind}
-use Rattle.wbin.specs.declared.module.ImportKind.TheVariants as imported
-use Rattle.wbin.specs.Syntax.{Signature, FunctionSyntax, Code, ImportSyntax, ModuleSyntax, ModuleParts, module_of, functions_with, import_of, code_in}
+use Rattle.wmodule.specs.declared.module.Import.{Import}
+use Rattle.wmodule.specs.declared.module.ImportKind.{ImportKind}
+use Rattle.wmodule.specs.declared.module.ImportKind.TheVariants as imported
+use Rattle.wmodule.specs.Syntax.{Signature, FunctionSyntax, Code, ImportSyntax, ModuleSyntax, ModuleParts, module_of, functions_with, import_of, code_in}
 use Rattle.wbody.specs.Context.{imported_function, imported_functions, function_types}
 use Rattle.wtype.specs.Accepted.{ImportAllowed, ImportsRight, IsImportOf, host_type}
 

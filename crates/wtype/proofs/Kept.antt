@@ -3,7 +3,7 @@ use Rattle.std.proofs.Common.{◌≡◌, ℕ, zero, suc, ◌<◌, List, [], ◌�
 use Rattle.std.specs.Prelude.{IsSome, slice_get}
 use Rattle.std.specs.Bool.{MatchBool}
 use Rattle.std.specs.List.{AllByRecursion}
-use Rattle.wbin.specs.Syntax.{Signature, FunctionSyntax, Code, function_with, functions_with}
+use Rattle.wmodule.specs.Syntax.{Signature, FunctionSyntax, Code, function_with, functions_with}
 use Rattle.wtype.proofs.Each.{all_mapped, all_unmapped}
 
 -- a test of one fact is one of another that says the same

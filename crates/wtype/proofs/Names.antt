@@ -11,7 +11,7 @@ use Rattle.std.specs.Str.{bytes_eq}
 use Rattle.std.proofs.lemmas.Map.Text.{is_eq-slice_cmp}
 use Rattle.std.proofs.lemmas.Slice.Eq.{bytes_eq-Decides}
 use Rattle.std.specs.Bool.{Decides}
-use Rattle.wbin.specs.Syntax.{ExportSyntax}
+use Rattle.wmodule.specs.Syntax.{ExportSyntax}
 use Rattle.wtype.specs.Accepted.{DistinctNames}
 
 -- names in the order of their bytes

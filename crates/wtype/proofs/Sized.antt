@@ -5,10 +5,10 @@ use Rattle.std.specs.Bool.{MatchBool}
 use Rattle.std.specs.List.{AllByRecursion}
 use Rattle.std.proofs.lemmas.List.{length-map}
 use Rattle.std.proofs.lemmas.Option.{slice_get-map, slice_get-get_or, slice_get_within}
-use Rattle.wbin.specs.declared.module.FunctionCode.{FunctionCode}
-use Rattle.wbin.specs.declared.module.ImportKind.{ImportKind}
-use Rattle.wbin.specs.declared.module.ImportKind.TheVariants as imported
-use Rattle.wbin.specs.Syntax.{Signature, ImportSyntax, FunctionSyntax, Code, ModuleSyntax, ModuleParts, module_of, function_with, code_in}
+use Rattle.wmodule.specs.declared.module.FunctionCode.{FunctionCode}
+use Rattle.wmodule.specs.declared.module.ImportKind.{ImportKind}
+use Rattle.wmodule.specs.declared.module.ImportKind.TheVariants as imported
+use Rattle.wmodule.specs.Syntax.{Signature, ImportSyntax, FunctionSyntax, Code, ModuleSyntax, ModuleParts, module_of, function_with, code_in}
 use Rattle.wbody.specs.declared.notes.Notes.{Notes}
 use Rattle.wbody.specs.BodyTyped.{BodyTyped, NoTyping}
 use Rattle.wbody.specs.Scope.{IsFunctionImport}

@@ -9,12 +9,12 @@ use Rattle.wcode.specs.declared.value.Value.{Value}
 use Rattle.wcode.specs.declared.instruction.Plain.TheVariants.{Const}
 use Rattle.wcode.specs.Operators.{type_of}
 use Rattle.wcode.specs.Syntax.{Body, done, plain}
-use Rattle.wbin.specs.declared.module.Limits.{Limits}
-use Rattle.wbin.specs.declared.module.ImportKind.{ImportKind}
-use Rattle.wbin.specs.declared.module.ImportKind.TheVariants as imported
-use Rattle.wbin.specs.declared.module.ExportKind.{ExportKind}
-use Rattle.wbin.specs.declared.module.ExportKind.TheVariants as exported
-use Rattle.wbin.specs.Syntax.{Signature, ImportSyntax, FunctionSyntax, GlobalSyntax, ExportSyntax, ElementSyntax, DataSyntax, ModuleSyntax}
+use Rattle.wmodule.specs.declared.module.Limits.{Limits}
+use Rattle.wmodule.specs.declared.module.ImportKind.{ImportKind}
+use Rattle.wmodule.specs.declared.module.ImportKind.TheVariants as imported
+use Rattle.wmodule.specs.declared.module.ExportKind.{ExportKind}
+use Rattle.wmodule.specs.declared.module.ExportKind.TheVariants as exported
+use Rattle.wmodule.specs.Syntax.{Signature, ImportSyntax, FunctionSyntax, GlobalSyntax, ExportSyntax, ElementSyntax, DataSyntax, ModuleSyntax}
 use Rattle.wbody.specs.Context.{at_most_one, function_types, body_context}
 use Rattle.wbody.specs.Typing.{Typed, is_in_range}
 use Rattle.wbody.specs.Heights.{greatest_height}

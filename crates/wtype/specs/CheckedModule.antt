@@ -1,6 +1,6 @@
 -- What a checked module is seen as.
 use Rattle.std.specs.Prelude.{◌≡◌, ℕ, List, Option, Some, length, option_map, slice_get}
-use Rattle.wbin.specs.Syntax.{ModuleParts, ModuleSyntax, module_of}
+use Rattle.wmodule.specs.Syntax.{ModuleParts, ModuleSyntax, module_of}
 use Rattle.wbody.specs.declared.notes.Notes.{Notes}
 use Rattle.wbody.specs.BodyTyped.{BodyTyped}
 use Rattle.wtype.specs.Accepted.{export_named}

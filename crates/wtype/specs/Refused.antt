@@ -1,6 +1,6 @@
 -- Why a module is refused: the first of the four parts that isn't so.
 use Rattle.std.specs.Prelude.{◌≡◌, ℕ, ◌+◌, ◌<◌, Option, Some, None, ⊤, length, slice_get}
-use Rattle.wbin.specs.Syntax.{FunctionSyntax, ModuleSyntax}
+use Rattle.wmodule.specs.Syntax.{FunctionSyntax, ModuleSyntax}
 use Rattle.wbody.specs.declared.fault.TypeFault.{TypeFault}
 use Rattle.wbody.specs.declared.fault.TypeFault.TheVariants.{Untyped, BadImport, BadExport, OverLimit, NoMemory}
 use Rattle.wtype.specs.Accepted.{ImportsRight, RulesKept, FunctionTyped, ModuleTyped, ExportsRight, ModuleSmall}

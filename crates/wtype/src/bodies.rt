@@ -1,14 +1,14 @@
 //! The bodies of a module, one after the other.
 
 ghost use Rattle.std.specs.Prelude.{◌≡◌, ℕ, Option, Some, IfOk, IfErr, vec_len};
-ghost use Rattle.wbin.specs.Syntax.{module_of};
+ghost use Rattle.wmodule.specs.Syntax.{module_of};
 ghost use Rattle.wtype.specs.Accepted.{ImportsRight, RulesKept};
 ghost use Rattle.wtype.specs.CheckedModule.{NotesAgree};
 ghost use Rattle.wtype.specs.Refused.{WhyRefused};
 
 use std::alloc::Global;
-use wbin::Module;
 use wbody::{Notes, TypeFault, type_body};
+use wmodule::Module;
 
 // The fault of a body, told with the index of its function.
 fn of_function(fault: TypeFault, index: usize) -> TypeFault

@@ -1,13 +1,13 @@
 //! The exports that are called.
 
 ghost use Rattle.std.specs.Prelude.{◌≡◌, MatchOption};
-ghost use Rattle.wbin.specs.Syntax.{module_of};
+ghost use Rattle.wmodule.specs.Syntax.{module_of};
 ghost use Rattle.wtype.specs.Accepted.{ImportsRight, ExportsRight, filter_name, score_name};
 ghost use Rattle.wtype.specs.CheckedModule.{index_named};
 
 use crate::exports::{find_export, is_right};
-use wbin::Module;
 use wcode::ValueType;
+use wmodule::Module;
 
 /// The indices of the functions that are called, the imported ones counted first.
 #[derive(Clone, Copy)]

@@ -1,7 +1,7 @@
 //! A module that was found acceptable, and the test that finds it so.
 
 ghost use Rattle.std.specs.Prelude.{◌≡◌, IfOk, IfErr};
-ghost use Rattle.wbin.specs.Syntax.{module_of};
+ghost use Rattle.wmodule.specs.Syntax.{module_of};
 ghost use Rattle.wtype.specs.Accepted.{Accepted, filter_name, score_name};
 ghost use Rattle.wtype.specs.CheckedModule.{NotesAgree, index_named};
 ghost use Rattle.wtype.specs.Refused.{WhyRefused};
@@ -13,8 +13,8 @@ use crate::rules::are_kept;
 use crate::sizes::is_small;
 use std::alloc::Global;
 use std::marker::Model;
-use wbin::Module;
 use wbody::{Notes, TypeFault};
+use wmodule::Module;
 
 /// A module that is accepted, with the notes of its bodies and the functions that are called. Only
 /// `validate` makes one.
@@ -28,7 +28,7 @@ impl Model for Checked {
     ghost use Rattle.wcode.specs.contracts.instruction.Instr as instr;
     ghost use Rattle.std.specs.Coded.{codes};
     ghost use Rattle.wtype.specs.CheckedModule.{CheckedModule, NotesAgree, index_named};
-    ghost use Rattle.wbin.specs.Syntax.{module_of};
+    ghost use Rattle.wmodule.specs.Syntax.{module_of};
     ghost use Rattle.wtype.specs.Accepted.{Accepted, filter_name, score_name};
     ghost use Rattle.std.specs.Prelude.{◌≡◌};
 

@@ -1,15 +1,15 @@
 //! Expressions that are constants: the first values of globals, and the offsets of segments.
 
 ghost use Rattle.std.specs.Prelude.{◌≡◌, ◌<◌, ◌^◌, MatchBool};
-ghost use Rattle.wbin.specs.Syntax.{expression_in};
-ghost use Rattle.wbin.specs.Placed.{IsExpression};
+ghost use Rattle.wmodule.specs.Syntax.{expression_in};
+ghost use Rattle.wmodule.specs.Placed.{IsExpression};
 ghost use Rattle.wcode.specs.Operators.{type_of};
 ghost use Rattle.std.specs.Prelude.{IsTrue};
 ghost use Rattle.wbody.specs.Typing.{is_in_range};
 ghost use Rattle.wtype.specs.Accepted.{ConstantOf};
 
-use wbin::{Module, Place};
 use wcode::{Value, ValueType, read_constant};
+use wmodule::{Module, Place};
 
 // A number of 32 bits is one, and one of 64 bits too; for the proof alone.
 fn in_word(number: u32)

@@ -2,14 +2,14 @@
 
 ghost use Rattle.std.specs.Prelude.{◌≡◌, ℕ, [], Some, IfOk, IfSome, IsTrue, MatchBool, map, nat_lt, option_map};
 ghost use Rattle.std.specs.List.{AllByRecursion};
-ghost use Rattle.wbin.specs.Syntax.{module_of, export_of};
+ghost use Rattle.wmodule.specs.Syntax.{module_of, export_of};
 ghost use Rattle.wtype.specs.Accepted.{ImportsRight, NamesSomething, export_named, gives, IsFunctionOf, DistinctNames};
 
 use crate::function_types::{is_function, takes_nothing};
 use std::alloc::{AllocError, Global};
 use std::collections::BTreeSet;
-use wbin::{Export, ExportKind, Module};
 use wcode::ValueType;
+use wmodule::{Export, ExportKind, Module};
 
 // The export names something.
 fn is_there(decoded: &Module, export: &Export) -> bool

@@ -2,12 +2,12 @@
 
 ghost use Rattle.std.specs.Prelude.{◌≡◌, ◌+◌, ◌<◌, [], length, option_map, slice_get, nat_lt, MatchBool};
 ghost use Rattle.std.specs.Option.{option_and_then};
-ghost use Rattle.wbin.specs.Syntax.{module_of, signature_of};
+ghost use Rattle.wmodule.specs.Syntax.{module_of, signature_of};
 ghost use Rattle.wbody.specs.Context.{function_types};
 ghost use Rattle.wtype.specs.Accepted.{ImportsRight, HasType};
 
-use wbin::{FunctionType, ImportKind, Module};
 use wcode::ValueType;
+use wmodule::{FunctionType, ImportKind, Module};
 
 // There is a function with this index.
 pub fn is_function(decoded: &Module, index: u32) -> bool

@@ -2,15 +2,15 @@
 
 ghost use Rattle.std.specs.Prelude.{◌≡◌, ◌<◌, All, length, MatchBool};
 ghost use Rattle.std.specs.List.{AllByRecursion};
-ghost use Rattle.wbin.specs.Syntax.{module_of, global_in, element_in, data_in};
-ghost use Rattle.wbin.specs.Placed.{IsGlobal, IsElement, IsData};
+ghost use Rattle.wmodule.specs.Syntax.{module_of, global_in, element_in, data_in};
+ghost use Rattle.wmodule.specs.Placed.{IsGlobal, IsElement, IsData};
 ghost use Rattle.wbody.specs.Context.{function_types};
 ghost use Rattle.wtype.specs.Accepted.{ImportsRight, GlobalTyped, ElementTyped, DataTyped};
 
 use crate::constants::is_constant;
 use crate::function_types::is_function;
-use wbin::{DataSegment, ElementSegment, GlobalVariable, Module};
 use wcode::ValueType;
+use wmodule::{DataSegment, ElementSegment, GlobalVariable, Module};
 
 // Each begins with a constant of its type.
 pub fn globals_typed(decoded: &Module, globals: &[GlobalVariable]) -> bool

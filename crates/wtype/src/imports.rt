@@ -3,12 +3,12 @@
 ghost use Rattle.std.specs.Prelude.{◌≡◌, ◌≤◌, ◌+◌, [], ◌∷◌, Some, None, IsSome, MatchBool, if◌then◌else◌, codes};
 ghost use Rattle.std.specs.List.{AllByRecursion};
 ghost use Rattle.std.specs.Str.{bytes_eq};
-ghost use Rattle.wbin.specs.Syntax.{module_of, signature_of, import_of};
+ghost use Rattle.wmodule.specs.Syntax.{module_of, signature_of, import_of};
 ghost use Rattle.wtype.specs.Accepted.{ImportAllowed, ImportsRight, IsImportOf, host_number as defined_number, host_type};
 
 use crate::function_types::listed;
-use wbin::{FunctionType, Import, ImportKind, Module};
 use wcode::ValueType;
+use wmodule::{FunctionType, Import, ImportKind, Module};
 
 /// The number of the host's function that is imported by this module's name and this name, if there
 /// is one: 0 is `sched.pod`, 1 is `sched.node`, 2 is `sched2.pod`, 3 is `sched2.node`, 4 is

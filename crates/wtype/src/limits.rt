@@ -4,7 +4,7 @@ ghost use Rattle.std.specs.Prelude.{◌≡◌, ◌≤◌, MatchBool};
 ghost use Rattle.std.specs.List.{AllByRecursion};
 ghost use Rattle.wtype.specs.Accepted.{LimitsRight};
 
-use wbin::Limits;
+use wmodule::Limits;
 
 // The least size is at most the greatest, and both are at most this.
 fn is_right(limits: Limits, range: u64) -> bool

@@ -2,7 +2,7 @@
 
 ghost use Rattle.std.specs.Prelude.{◌≡◌, ◌<◌, ◌≤◌, IfOk, IfSome, IsSome, MatchBool, length, slice_get};
 ghost use Rattle.std.specs.List.{AllByRecursion};
-ghost use Rattle.wbin.specs.Syntax.{module_of, signature_of};
+ghost use Rattle.wmodule.specs.Syntax.{module_of, signature_of};
 ghost use Rattle.wtype.specs.Accepted.{ImportsRight, RulesKept, LimitsRight, table_range, memory_range, HasType, start_type, ExportsNamed, GlobalTyped, ElementTyped, DataTyped};
 
 use crate::exports::{are_there, have_distinct_names};
@@ -10,7 +10,7 @@ use crate::function_types::takes_nothing;
 use crate::globals::{datas_typed, elements_typed, globals_typed};
 use crate::limits::are_right;
 use std::alloc::{AllocError, Global};
-use wbin::{FunctionType, Module};
+use wmodule::{FunctionType, Module};
 
 /// The most pages of a memory, and the most elements of a table.
 const MEMORY_RANGE: u64 = 65536;

@@ -2,14 +2,14 @@
 
 ghost use Rattle.std.specs.Prelude.{◌≡◌, ◌+◌, ◌<◌, ◌≤◌, Some, length, slice_get, vec_len, MatchBool, MatchOption};
 ghost use Rattle.std.specs.List.{AllByRecursion};
-ghost use Rattle.wbin.specs.Syntax.{Signature, FunctionSyntax, module_of, locals_of};
+ghost use Rattle.wmodule.specs.Syntax.{Signature, FunctionSyntax, module_of, locals_of};
 ghost use Rattle.wtype.specs.Accepted.{most_slots, FunctionSmall, ModuleSmall};
 ghost use Rattle.wtype.specs.CheckedModule.{NotesAgree};
 
 use crate::function_types::listed;
 use crate::limits::are_small;
-use wbin::{LocalRun, Module};
 use wbody::Notes;
+use wmodule::{LocalRun, Module};
 
 /// The most parameters, locals and operands of a function together.
 const MOST_SLOTS: usize = 1024;

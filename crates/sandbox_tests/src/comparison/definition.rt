@@ -4,9 +4,9 @@
 use std::alloc::Global;
 use std::panic::Expect;
 use std::process::Abort;
-use wbin::{FunctionCode, FunctionType, Import, Module};
 use wcode::{Instr, Value, ValueType, read_constant, read_expr};
 use wmem::{MAX_PAGES, Memory};
+use wmodule::{FunctionCode, FunctionType, Import, Module};
 use wplain::{Code, Function, Program, Records, Setting, Store};
 
 const SPELLED: &str = "what was validated is spelled";

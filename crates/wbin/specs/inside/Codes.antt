@@ -4,10 +4,10 @@ use Rattle.wcode.specs.declared.value.ValueType.{ValueType}
 use Rattle.wcode.specs.declared.fault.BinFault.{BinFault}
 use Rattle.wcode.specs.declared.fault.BinFault.TheVariants.{NoMemory}
 use Rattle.wcode.specs.Grammar.{SpellsExpr}
-use Rattle.wbin.specs.declared.module.FunctionCode.{FunctionCode}
-use Rattle.wbin.specs.Syntax.{Code, code_in}
-use Rattle.wbin.specs.Grammar.{SpellsVector, SpellsRun, run_locals}
-use Rattle.wbin.specs.Placed.{IsCode}
+use Rattle.wmodule.specs.declared.module.FunctionCode.{FunctionCode}
+use Rattle.wmodule.specs.Syntax.{Code, code_in}
+use Rattle.wmodule.specs.Grammar.{SpellsVector, SpellsRun, run_locals}
+use Rattle.wmodule.specs.Placed.{IsCode}
 
 -- the contents of a body, which fill the bytes: locals in runs, and an expression
 pub record Fills (contents : List ℕ) (code : Code) : Type 0 where

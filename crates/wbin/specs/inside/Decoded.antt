@@ -2,10 +2,10 @@
 use Rattle.std.specs.Prelude.{◌≡◌, ◌≢◌, ℕ, List, Option, None, Result, Ok, Err}
 use Rattle.wcode.specs.declared.fault.BinFault.{BinFault}
 use Rattle.wcode.specs.declared.fault.BinFault.TheVariants.{NoMemory}
-use Rattle.wbin.specs.declared.module.Tables.{Tables}
-use Rattle.wbin.specs.Syntax.{ModuleSyntax, syntax_in}
-use Rattle.wbin.specs.Placed.{Places}
-use Rattle.wbin.specs.Grammar.{Section, Assembles}
+use Rattle.wmodule.specs.declared.module.Tables.{Tables}
+use Rattle.wmodule.specs.Syntax.{ModuleSyntax, syntax_in}
+use Rattle.wmodule.specs.Placed.{Places}
+use Rattle.wmodule.specs.Grammar.{Section, Assembles}
 
 -- what is read is the case, or, but for want of memory, nothing is
 unfoldable pub ReadsWhole : {A B : Type 0} → (B → Type 0) → (A → B) → Result A BinFault → Type 0

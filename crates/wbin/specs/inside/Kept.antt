@@ -7,9 +7,9 @@ use Rattle.wcode.specs.Blocks.{HasBlocks}
 use Rattle.wcode.proofs.BlockLists.{blocks_spell}
 use Rattle.wcode.proofs.BodyRead.{body_is}
 use Rattle.wcode.proofs.Longer.{blocks_longer}
-use Rattle.wbin.specs.declared.module.Place.{Place}
-use Rattle.wbin.specs.Syntax.{GlobalSyntax, ElementSyntax, DataSyntax, Code, locals_of, expression_in, contents_in, code_in, global_in, element_in, data_in}
-use Rattle.wbin.specs.Placed.{StandsAt, IsExpression, IsStretch, IsCode, IsGlobal, IsElement, IsData}
+use Rattle.wmodule.specs.declared.module.Place.{Place}
+use Rattle.wmodule.specs.Syntax.{GlobalSyntax, ElementSyntax, DataSyntax, Code, locals_of, expression_in, contents_in, code_in, global_in, element_in, data_in}
+use Rattle.wmodule.specs.Placed.{StandsAt, IsExpression, IsStretch, IsCode, IsGlobal, IsElement, IsData}
 use Rattle.wbin.specs.inside.Reading.{Keeps}
 
 pub plain_kept : {A B : Type 0} (seen : A → B) → Keeps (λ bytes (x : A). Unit {0}) (λ bytes x. seen x)

@@ -4,7 +4,7 @@ use Rattle.wcode.specs.declared.fault.BinFault.{BinFault}
 use Rattle.wcode.specs.declared.fault.BinFault.TheVariants.{NoMemory}
 use Rattle.wbin.specs.declared.section.Stretch.{Stretch}
 use Rattle.wbin.specs.declared.section.Outline.{Outline}
-use Rattle.wbin.specs.Grammar.{SpellsEach, Section, SpellsSection, IsCustom, InOrder}
+use Rattle.wmodule.specs.Grammar.{SpellsEach, Section, SpellsSection, IsCustom, InOrder}
 
 -- the section that stands there
 abbrev pub section_of : List ℕ → Stretch → Section

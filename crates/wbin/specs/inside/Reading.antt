@@ -2,7 +2,7 @@
 use Rattle.std.specs.Prelude.{◌≡◌, ◌≢◌, ℕ, ◌≤◌, List, ◌++◌, length, drop, Result, Ok, Err}
 use Rattle.wcode.specs.declared.fault.BinFault.{BinFault}
 use Rattle.wcode.specs.declared.fault.BinFault.TheVariants.{NoMemory}
-use Rattle.wbin.specs.Grammar.{Spelling, SpellsEach}
+use Rattle.wmodule.specs.Grammar.{Spelling, SpellsEach}
 
 -- nothing of the kind is spelled by the bytes
 abbrev pub Nothing : {A : Type 0} → Spelling A → List ℕ → Type 0

@@ -5,14 +5,14 @@ use Rattle.wcode.specs.declared.value.ValueType.TheVariants.{I32, I64}
 use Rattle.wcode.specs.Grammar.{SpellsIndex, SpellsExpr}
 use Rattle.wcode.proofs.Words.{index_once}
 use Rattle.wcode.proofs.Bodies.{body_once}
-use Rattle.wbin.specs.declared.module.Limits.{Limits}
-use Rattle.wbin.specs.declared.module.GlobalType.{GlobalType}
-use Rattle.wbin.specs.declared.module.ImportKind.{ImportKind}
-use Rattle.wbin.specs.declared.module.ImportKind.TheVariants as imported
-use Rattle.wbin.specs.declared.module.ExportKind.{ExportKind}
-use Rattle.wbin.specs.declared.module.ExportKind.TheVariants as exported
-use Rattle.wbin.specs.Syntax.{Signature, ImportSyntax, GlobalSyntax, ExportSyntax, ElementSyntax, DataSyntax, Code}
-use Rattle.wbin.specs.Grammar.{Spelling, Byte, SpellsEach, SpellsVector, SpellsBytes, SpellsName, value_type_byte, SpellsValueType, results_listed, SpellsResults, SpellsFunctionType, SpellsLimits, SpellsTableType, mutable_byte, SpellsMutable, SpellsGlobalType, import_byte, SpellsImported, SpellsImportKind, SpellsImport, SpellsGlobal, export_byte, SpellsExportKind, SpellsExport, SpellsElement, SpellsData, SpellsRun, run_locals, SpellsCode, Section, SpellsSection}
+use Rattle.wmodule.specs.declared.module.Limits.{Limits}
+use Rattle.wmodule.specs.declared.module.GlobalType.{GlobalType}
+use Rattle.wmodule.specs.declared.module.ImportKind.{ImportKind}
+use Rattle.wmodule.specs.declared.module.ImportKind.TheVariants as imported
+use Rattle.wmodule.specs.declared.module.ExportKind.{ExportKind}
+use Rattle.wmodule.specs.declared.module.ExportKind.TheVariants as exported
+use Rattle.wmodule.specs.Syntax.{Signature, ImportSyntax, GlobalSyntax, ExportSyntax, ElementSyntax, DataSyntax, Code}
+use Rattle.wmodule.specs.Grammar.{Spelling, Byte, SpellsEach, SpellsVector, SpellsBytes, SpellsName, value_type_byte, SpellsValueType, results_listed, SpellsResults, SpellsFunctionType, SpellsLimits, SpellsTableType, mutable_byte, SpellsMutable, SpellsGlobalType, import_byte, SpellsImported, SpellsImportKind, SpellsImport, SpellsGlobal, export_byte, SpellsExportKind, SpellsExport, SpellsElement, SpellsData, SpellsRun, run_locals, SpellsCode, Section, SpellsSection}
 use Rattle.wbin.specs.inside.Reading.{Once, SpellsBoth}
 
 tail_once : {a b : ℕ} {xs ys : List ℕ} → a ∷ xs ≡ b ∷ ys → xs ≡ ys

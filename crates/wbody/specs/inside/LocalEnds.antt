@@ -1,6 +1,6 @@
 -- Where the runs of a function's locals end, counted from the first of them.
 use Rattle.std.specs.Prelude.{ℕ, ◌+◌, ◌^◌, List, [], ◌∷◌, min}
-use Rattle.wbin.specs.declared.module.LocalRun.{LocalRun}
+use Rattle.wmodule.specs.declared.module.LocalRun.{LocalRun}
 
 -- the end of a run that begins at a place. What is past every index is all one, so that the ends
 -- stay small

@@ -5,9 +5,9 @@ use Rattle.std.specs.List.{AllByRecursion}
 use Rattle.wcode.specs.declared.value.ValueType.{ValueType}
 use Rattle.wcode.specs.declared.instruction.Plain.{Plain}
 use Rattle.wcode.specs.declared.instruction.Plain.TheVariants as plains
-use Rattle.wbin.specs.declared.module.FunctionType.{FunctionType}
-use Rattle.wbin.specs.declared.module.Import.{Import}
-use Rattle.wbin.specs.Syntax.{Signature, signature_of, import_of, locals_of}
+use Rattle.wmodule.specs.declared.module.FunctionType.{FunctionType}
+use Rattle.wmodule.specs.declared.module.Import.{Import}
+use Rattle.wmodule.specs.Syntax.{Signature, signature_of, import_of, locals_of}
 use Rattle.wbody.specs.declared.scope.Scope.{Scope}
 use Rattle.wbody.specs.declared.scope.Level.{Level}
 use Rattle.wbody.specs.declared.scope.Opened.{Opened}

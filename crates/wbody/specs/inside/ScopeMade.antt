@@ -1,8 +1,8 @@
 -- How the scope of a body is made.
 use Rattle.std.specs.Prelude.{◌≡◌}
-use Rattle.wbin.specs.declared.module.Tables.{Tables}
-use Rattle.wbin.specs.declared.module.FunctionType.{FunctionType}
-use Rattle.wbin.specs.declared.module.FunctionCode.{FunctionCode}
+use Rattle.wmodule.specs.declared.module.Tables.{Tables}
+use Rattle.wmodule.specs.declared.module.FunctionType.{FunctionType}
+use Rattle.wmodule.specs.declared.module.FunctionCode.{FunctionCode}
 use Rattle.wbody.specs.declared.scope.Scope.{Scope}
 use Rattle.wbody.specs.Context.{is_there}
 

@@ -1,6 +1,6 @@
 -- What is known of every checked module.
-use Rattle.wbin.specs.Placed.{Stands}
-use Rattle.wbin.specs.Syntax.{module_of}
+use Rattle.wmodule.specs.Placed.{Stands}
+use Rattle.wmodule.specs.Syntax.{module_of}
 use Rattle.wtype.specs.Accepted.{Accepted}
 use Rattle.wtype.specs.CheckedModule.{CheckedModule, NotesAgree}
 

@@ -3,8 +3,8 @@ use Rattle.std.specs.Prelude.{◌≡◌, ℕ, ◌*◌, ◌≤◌, List, length}
 use Rattle.std.specs.Arc.{arc_value}
 use Rattle.std.specs.List.{AllByRecursion}
 use Rattle.wmem.specs.Memory.{page_size}
-use Rattle.wbin.specs.declared.module.GlobalVariable.{GlobalVariable}
-use Rattle.wbin.specs.Syntax.{ModuleParts, module_of}
+use Rattle.wmodule.specs.declared.module.GlobalVariable.{GlobalVariable}
+use Rattle.wmodule.specs.Syntax.{ModuleParts, module_of}
 use Rattle.wstore.specs.declared.store.Store.TheInside.{Inside}
 use Rattle.wstore.specs.Values.{InRange}
 use Rattle.wstore.specs.inside.Words.{values_in}

@@ -1,8 +1,8 @@
 -- Globals as numbers, beside the module's list that has their types.
 use Rattle.std.specs.Prelude.{ℕ, List, [], ◌∷◌}
 use Rattle.wcode.specs.declared.value.Value.{Value}
-use Rattle.wbin.specs.declared.module.GlobalVariable.{GlobalVariable}
-use Rattle.wbin.specs.Syntax.{expression_in}
+use Rattle.wmodule.specs.declared.module.GlobalVariable.{GlobalVariable}
+use Rattle.wmodule.specs.Syntax.{expression_in}
 use Rattle.wstore.specs.Values.{value_of, word_of, first_value}
 
 -- numbers as values, each of its global's type

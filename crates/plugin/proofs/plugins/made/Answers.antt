@@ -1,6 +1,6 @@
 use Rattle.std.proofs.Common.{◌+◌, ◌≤◌, List, [], ◌∷◌, ◌++◌, vec_len, sym, ap, ◌∙◌, subst, arith}
 use Rattle.std.specs.Vec.{vec_capacity}
-use Rattle.wbin.specs.Syntax.{module_of}
+use Rattle.wmodule.specs.Syntax.{module_of}
 use Rattle.wtype.specs.declared.checked.Checked.{Checked}
 use Rattle.whost.specs.Image.{IsImage}
 use Rattle.plugin.specs.Plugins.{IsWeight}

@@ -1,4 +1,4 @@
-use Rattle.wbin.specs.Syntax.{module_of}
+use Rattle.wmodule.specs.Syntax.{module_of}
 use Rattle.site_modules.proofs.Verdicts.{untyped_told}
 use Rattle.site_modules.proofs.verdict.validated.Goals as goal
 

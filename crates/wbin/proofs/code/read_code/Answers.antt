@@ -2,7 +2,7 @@ use Rattle.std.proofs.Common.{map, drop, refl, arith}
 use Rattle.std.proofs.lemmas.Result.{err_from_is_err_and}
 use Rattle.wcode.specs.Grammar.{end}
 use Rattle.wcode.proofs.BlockLists.{blocks_spell}
-use Rattle.wbin.specs.declared.module.FunctionCode.{FunctionCode}
+use Rattle.wmodule.specs.declared.module.FunctionCode.{FunctionCode}
 use Rattle.wbin.specs.inside.Reading.{Reads}
 use Rattle.wbin.specs.inside.Codes.{ReadsCode}
 use Rattle.wbin.proofs.CodeContents.{not_filled, body_missing}

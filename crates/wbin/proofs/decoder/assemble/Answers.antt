@@ -2,7 +2,7 @@ use Rattle.std.proofs.Common.{◌≡◌, map, length, subst, arith}
 use Rattle.std.proofs.lemmas.List.{map-id}
 use Rattle.std.proofs.lemmas.Result.{err_from_is_err_and}
 use Rattle.wcode.specs.Grammar.{SpellsIndex}
-use Rattle.wbin.specs.Grammar.{Lists, Starts, contents_of, SpellsFunctionType, SpellsImport, SpellsTableType, SpellsLimits, SpellsGlobal, SpellsExport, SpellsElement, SpellsData, SpellsCode}
+use Rattle.wmodule.specs.Grammar.{Lists, Starts, contents_of, SpellsFunctionType, SpellsImport, SpellsTableType, SpellsLimits, SpellsGlobal, SpellsExport, SpellsElement, SpellsData, SpellsCode}
 use Rattle.wbin.specs.inside.Outline.{section_of}
 use Rattle.wbin.specs.inside.Decoded.{ReadsWhole, AssemblesTo}
 use Rattle.wbin.proofs.Modules.{functions_listed, counts_differ, not_read, faulty}

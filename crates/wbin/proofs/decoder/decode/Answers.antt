@@ -1,6 +1,6 @@
 use Rattle.std.proofs.Common.{sym, subst}
 use Rattle.std.proofs.lemmas.Result.{err_from_is_err_and}
-use Rattle.wbin.specs.Placed.{Stands}
+use Rattle.wmodule.specs.Placed.{Stands}
 use Rattle.wbin.proofs.Modules.{module_is}
 use Rattle.wbin.proofs.decoder.decode.Goals as goal
 

@@ -1,5 +1,5 @@
 use Rattle.std.proofs.Common.{◌≡◌, ◌∙◌, ℕ, ◌+◌, List, [], ◌∷◌, ◌++◌, drop, get_or, ap, arith}
-use Rattle.wbin.specs.declared.module.LocalRun.{LocalRun}
+use Rattle.wmodule.specs.declared.module.LocalRun.{LocalRun}
 use Rattle.wbody.specs.inside.LocalEnds.{ends_from, end_of}
 use Rattle.wbody.proofs.RunEnds.{ends_more, ends_done}
 use Rattle.wbody.proofs.scope.run_ends.Goals as goal

@@ -1,5 +1,5 @@
 use Rattle.std.proofs.Common.{◌<◌, length, arith}
-use Rattle.wbin.specs.Syntax.{DataSyntax, module_of}
+use Rattle.wmodule.specs.Syntax.{DataSyntax, module_of}
 use Rattle.wstore.specs.Segments.{DataFits}
 use Rattle.whost.proofs.SegmentLemmas.{one_fails, one_more}
 use Rattle.whost.proofs.instantiation.data_fits.Goals as goal

@@ -1,6 +1,6 @@
 -- The segments that were passed fit.
 use Rattle.std.proofs.Common.{ℕ, ◌<◌, get_or}
-use Rattle.wbin.specs.Syntax.{DataSyntax, module_of}
+use Rattle.wmodule.specs.Syntax.{DataSyntax, module_of}
 use Rattle.wstore.specs.Segments.{DataFits}
 use Rattle.whost.proofs.instantiation.data_fits.Given as goal
 

@@ -1,5 +1,5 @@
 use Rattle.std.proofs.Common.{◌<◌, length, arith}
-use Rattle.wbin.specs.Syntax.{ElementSyntax, module_of}
+use Rattle.wmodule.specs.Syntax.{ElementSyntax, module_of}
 use Rattle.wstore.specs.Segments.{ElementsFit}
 use Rattle.whost.proofs.SegmentLemmas.{one_fails, one_more}
 use Rattle.whost.proofs.instantiation.elements_fit.Goals as goal

@@ -1,6 +1,6 @@
 -- The segments that were passed fit.
 use Rattle.std.proofs.Common.{ℕ, ◌<◌, get_or}
-use Rattle.wbin.specs.Syntax.{ElementSyntax, module_of}
+use Rattle.wmodule.specs.Syntax.{ElementSyntax, module_of}
 use Rattle.wstore.specs.Segments.{ElementsFit}
 use Rattle.whost.proofs.instantiation.elements_fit.Given as goal
 

@@ -1,5 +1,5 @@
 use Rattle.std.proofs.Common.{◌<◌, length, arith}
-use Rattle.wbin.specs.Syntax.{module_of}
+use Rattle.wmodule.specs.Syntax.{module_of}
 use Rattle.whost.proofs.SegmentLemmas.{elements_step}
 use Rattle.whost.proofs.instantiation.write_elements.Goals as goal
 

@@ -1,5 +1,5 @@
 use Rattle.std.proofs.Common.{All, sym, ap, ◌∙◌, subst}
-use Rattle.wbin.specs.Syntax.{module_of}
+use Rattle.wmodule.specs.Syntax.{module_of}
 use Rattle.wstore.specs.Segments.{DataFits}
 use Rattle.wmach.specs.Call.{MachineState}
 use Rattle.whost.specs.Image.{with_segments, with_all_data}

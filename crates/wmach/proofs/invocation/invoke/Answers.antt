@@ -1,7 +1,7 @@
 use Rattle.std.proofs.Common.{◌≡◌, ◌-◌, [], length, reverse, refl, sym, ap, ◌∙◌, subst, arith}
 use Rattle.std.specs.Prelude.{slice_get}
 use Rattle.std.proofs.lemmas.Option.{slice_get_within}
-use Rattle.wbin.specs.Syntax.{module_of}
+use Rattle.wmodule.specs.Syntax.{module_of}
 use Rattle.wmach.specs.inside.Kept.{IsCallOf}
 use Rattle.wmach.specs.Reduction.{imported_count}
 use Rattle.wmach.specs.inside.Running.{At}

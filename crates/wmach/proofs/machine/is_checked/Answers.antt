@@ -1,6 +1,6 @@
 use Rattle.std.proofs.Common.{subst}
-use Rattle.wbin.specs.Placed.{Stands}
-use Rattle.wbin.specs.Syntax.{ModuleParts}
+use Rattle.wmodule.specs.Placed.{Stands}
+use Rattle.wmodule.specs.Syntax.{ModuleParts}
 use Rattle.wtype.specs.CheckedModule.{NotesAgree}
 use Rattle.wmach.proofs.machine.is_checked.Goals as goal
 

@@ -1,5 +1,5 @@
 use Rattle.std.proofs.Common.{ap}
-use Rattle.wbin.specs.declared.module.Tables.{Tables}
+use Rattle.wmodule.specs.declared.module.Tables.{Tables}
 use Rattle.wmach.proofs.Shapes.{found_at}
 use Rattle.wmach.proofs.records.import_at.Goals as goal
 

@@ -1,6 +1,6 @@
 use Rattle.std.proofs.Common.{◌≡◌, ℕ, List, Some, None, length, sym, ap, ◌∙◌, subst, rules, arith}
 use Rattle.std.specs.Prelude.{vec_len}
-use Rattle.wbin.specs.declared.module.Tables.{Tables}
+use Rattle.wmodule.specs.declared.module.Tables.{Tables}
 use Rattle.wtype.specs.Accepted.{host_number}
 use Rattle.wmach.proofs.Recorded.{SoFar, none_yet, name_in, names_in, has_record, one_more, all_of}
 use Rattle.wmach.proofs.records.records_of.Goals as goal

@@ -1,6 +1,6 @@
 use Rattle.std.proofs.Common.{Option, IfOk, subst, sym}
 use Rattle.std.specs.Prelude.{slice_get, option_and_then}
-use Rattle.wbin.specs.Syntax.{FunctionSyntax, Signature}
+use Rattle.wmodule.specs.Syntax.{FunctionSyntax, Signature}
 use Rattle.wmach.specs.Reduction.{enter}
 use Rattle.wplain.specs.Seen.{syntax_of, function_of, body_of_code}
 use Rattle.wplain.specs.inside.Done.{WentAs}

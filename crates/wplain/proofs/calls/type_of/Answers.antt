@@ -1,6 +1,6 @@
 use Rattle.std.proofs.Common.{rules, ◌≡◌, ◌∙◌, ◌++◌, Some, map, ap, subst}
 use Rattle.std.specs.Prelude.{slice_get, option_and_then}
-use Rattle.wbin.specs.Syntax.{import_of, signature_of}
+use Rattle.wmodule.specs.Syntax.{import_of, signature_of}
 use Rattle.wbody.specs.Context.{imported_functions}
 use Rattle.wplain.specs.Seen.{syntax_of, function_of}
 use Rattle.wplain.proofs.calls.type_of.Goals as goal

@@ -1,6 +1,6 @@
 use Rattle.std.proofs.Common.{◌≡◌, ◌∙◌, Some, sym}
 use Rattle.wcode.specs.Syntax.{constant_of}
-use Rattle.wbin.specs.Syntax.{expression_in}
+use Rattle.wmodule.specs.Syntax.{expression_in}
 use Rattle.wtype.proofs.ConstantFound.{spelled}
 use Rattle.wstore.proofs.Numbers.{first_word_read}
 use Rattle.wstore.proofs.constants.first_word.Goals as goal

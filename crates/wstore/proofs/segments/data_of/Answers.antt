@@ -1,9 +1,9 @@
 use Rattle.std.proofs.Common.{◌≡◌, ◌<◌, ◌∙◌, length, get_or, sym, ap, subst, arith}
 use Rattle.std.proofs.lemmas.List.{length-map}
-use Rattle.wbin.specs.declared.module.Tables.{Tables}
-use Rattle.wbin.specs.declared.module.DataSegment.{DataSegment}
-use Rattle.wbin.specs.Placed.{Stands, IsData}
-use Rattle.wbin.specs.Syntax.{DataSyntax, data_in}
+use Rattle.wmodule.specs.declared.module.Tables.{Tables}
+use Rattle.wmodule.specs.declared.module.DataSegment.{DataSegment}
+use Rattle.wmodule.specs.Placed.{Stands, IsData}
+use Rattle.wmodule.specs.Syntax.{DataSyntax, data_in}
 use Rattle.wstore.specs.Segments.{offset_of}
 use Rattle.wstore.proofs.Found.{seen_at}
 use Rattle.wstore.proofs.segments.data_of.Goals as goal

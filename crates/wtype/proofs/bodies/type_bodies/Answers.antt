@@ -1,9 +1,9 @@
 use Rattle.std.proofs.Common.{◌≡◌, ◌+◌, false, Err, length, sym, ap, ◌∙◌, subst, arith, vec_len}
 use Rattle.std.specs.Prelude.{slice_get, is_err}
 use Rattle.std.proofs.lemmas.List.{length-map}
-use Rattle.wbin.specs.declared.module.Tables.{Tables}
-use Rattle.wbin.specs.Placed.{Stands}
-use Rattle.wbin.specs.Syntax.{module_of, import_of}
+use Rattle.wmodule.specs.declared.module.Tables.{Tables}
+use Rattle.wmodule.specs.Placed.{Stands}
+use Rattle.wmodule.specs.Syntax.{module_of, import_of}
 use Rattle.wbody.specs.BodyTyped.{BodyTyped}
 use Rattle.wtype.proofs.Sized.{functions_count, some_at, with_last, after_push, after_push_len, function_typed, told, functions_imported, not_typed}
 use Rattle.wtype.proofs.bodies.type_bodies.Goals as goal

@@ -2,7 +2,7 @@ use Rattle.std.proofs.Common.{◌≡◌, Some, sym, ◌∙◌, rules}
 use denote.Enum.Bare.{same_true, same_false}
 use Rattle.wcode.specs.contracts.value.ValueType.{the_type}
 use Rattle.wcode.specs.Syntax.{constant_of}
-use Rattle.wbin.specs.Syntax.{expression_in}
+use Rattle.wmodule.specs.Syntax.{expression_in}
 use Rattle.wtype.specs.Accepted.{ConstantOf}
 use Rattle.wtype.proofs.ConstantFound.{on_bool, constant_read, constant_typed, no_constant, spelled}
 use Rattle.wtype.proofs.constants.is_constant.Goals as goal

@@ -1,7 +1,7 @@
 use Rattle.std.proofs.Common.{take}
 use Rattle.std.specs.List.{AllByRecursion}
-use Rattle.wbin.specs.declared.module.Export.{Export}
-use Rattle.wbin.specs.Syntax.{module_of}
+use Rattle.wmodule.specs.declared.module.Export.{Export}
+use Rattle.wmodule.specs.Syntax.{module_of}
 use Rattle.wtype.specs.Accepted.{NamesSomething}
 use Rattle.wtype.proofs.exports.are_there.Given as goal
 

@@ -1,5 +1,5 @@
 use Rattle.std.proofs.Common.{◌≡◌, map, drop}
-use Rattle.wbin.specs.Syntax.{export_of}
+use Rattle.wmodule.specs.Syntax.{export_of}
 use Rattle.wtype.specs.Accepted.{export_named}
 use Rattle.wtype.proofs.exports.find_export.Given as goal
 

@@ -1,11 +1,11 @@
 use Rattle.std.proofs.Common.{◌≡◌, ◌≢◌, ℕ, ◌+◌, ◌<◌, length, get_or, drop, add-one, Bool, true, false, not, List, [], ◌∷◌, ◌++◌, map, take, refl, sym, ap, ◌∙◌, subst}
 use Rattle.std.proofs.lemmas.List.{take_more, map-append, take_all}
 use Rattle.std.specs.List.{AllByRecursion}
-use Rattle.wbin.specs.Syntax.{ExportSyntax, export_of}
+use Rattle.wmodule.specs.Syntax.{ExportSyntax, export_of}
 use Rattle.wtype.specs.Accepted.{DistinctNames}
 use Rattle.wtype.proofs.Names.{HasNames, OnlyNames, Among, distinct_more, none_of, has_more, only_none, only_more, not_distinct}
 use Rattle.wtype.proofs.Each.{split}
-use Rattle.wbin.specs.declared.module.Export.{Export}
+use Rattle.wmodule.specs.declared.module.Export.{Export}
 use Rattle.wtype.proofs.exports.have_distinct_names.Goals as goal
 
 not_false : (b : Bool) → false ≡ not b → b ≡ true

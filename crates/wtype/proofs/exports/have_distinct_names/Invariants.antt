@@ -1,5 +1,5 @@
 use Rattle.std.proofs.Common.{map, take}
-use Rattle.wbin.specs.Syntax.{export_of}
+use Rattle.wmodule.specs.Syntax.{export_of}
 use Rattle.wtype.specs.Accepted.{DistinctNames}
 use Rattle.wtype.proofs.Names.{HasNames, OnlyNames}
 use Rattle.wtype.proofs.exports.have_distinct_names.Given as goal

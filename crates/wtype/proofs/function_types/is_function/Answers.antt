@@ -1,7 +1,7 @@
 use Rattle.std.proofs.Common.{◌≡◌, ◌+◌, ◌-◌, ◌<◌, ◌≤◌, ℕ, length, subst, arith}
 use Rattle.std.specs.Prelude.{nat_lt}
 use Rattle.std.proofs.lemmas.Bool.Decides.{nat_tests}
-use Rattle.wbin.specs.Placed.{Stands}
+use Rattle.wmodule.specs.Placed.{Stands}
 use Rattle.wtype.proofs.FunctionTypes.{types_length}
 use Rattle.wtype.proofs.function_types.is_function.Goals as goal
 

@@ -1,9 +1,9 @@
 use Rattle.std.proofs.Common.{◌≡◌, ◌-◌, ℕ, List, Some, length, get_or, sym, ap, ◌∙◌, subst, arith}
 use Rattle.std.specs.Prelude.{slice_get, option_map}
-use Rattle.wbin.specs.declared.module.Tables.{Tables}
-use Rattle.wbin.specs.declared.module.ImportKind.{ImportKind}
-use Rattle.wbin.specs.Placed.{Stands}
-use Rattle.wbin.specs.Syntax.{module_of}
+use Rattle.wmodule.specs.declared.module.Tables.{Tables}
+use Rattle.wmodule.specs.declared.module.ImportKind.{ImportKind}
+use Rattle.wmodule.specs.Placed.{Stands}
+use Rattle.wmodule.specs.Syntax.{module_of}
 use Rattle.wtype.proofs.FunctionTypes.{imported_type, imported_at, own_at, only_functions, copied_is}
 use Rattle.wtype.proofs.function_types.type_index.Goals as goal
 

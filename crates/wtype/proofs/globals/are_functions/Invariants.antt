@@ -1,6 +1,6 @@
 use Rattle.std.proofs.Common.{ℕ, ◌<◌, length, take}
 use Rattle.std.specs.List.{AllByRecursion}
-use Rattle.wbin.specs.Syntax.{module_of}
+use Rattle.wmodule.specs.Syntax.{module_of}
 use Rattle.wbody.specs.Context.{function_types}
 use Rattle.wtype.proofs.globals.are_functions.Given as goal
 

@@ -1,7 +1,7 @@
 use Rattle.std.proofs.Common.{take}
 use Rattle.std.specs.List.{AllByRecursion}
-use Rattle.wbin.specs.declared.module.DataSegment.{DataSegment}
-use Rattle.wbin.specs.Syntax.{module_of, data_in}
+use Rattle.wmodule.specs.declared.module.DataSegment.{DataSegment}
+use Rattle.wmodule.specs.Syntax.{module_of, data_in}
 use Rattle.wtype.specs.Accepted.{DataTyped}
 use Rattle.wtype.proofs.globals.datas_typed.Given as goal
 

@@ -4,8 +4,8 @@ use Rattle.std.specs.Prelude.{vec_len}
 use Rattle.std.specs.Bool.{MatchBool}
 use Rattle.std.specs.List.{AllByRecursion}
 use Rattle.wcode.specs.declared.value.ValueType.TheVariants.{I32}
-use Rattle.wbin.specs.declared.module.Tables.{Tables}
-use Rattle.wbin.specs.Syntax.{ModuleSyntax, ElementSyntax, module_of, element_in}
+use Rattle.wmodule.specs.declared.module.Tables.{Tables}
+use Rattle.wmodule.specs.Syntax.{ModuleSyntax, ElementSyntax, module_of, element_in}
 use Rattle.wbody.specs.Context.{function_types}
 use Rattle.wtype.specs.Accepted.{ConstantOf, ElementTyped}
 use Rattle.wtype.proofs.Kept.{on_true}

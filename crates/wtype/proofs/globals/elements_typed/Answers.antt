@@ -1,5 +1,5 @@
 use Rattle.std.proofs.Common.{sym, subst}
-use Rattle.wbin.specs.Placed.{IsElement}
+use Rattle.wmodule.specs.Placed.{IsElement}
 use Rattle.wtype.proofs.globals.elements_typed.Goals as goal
 
 pub element_typed-requires-clause-stands : goal.element_typed-requires-clause-stands

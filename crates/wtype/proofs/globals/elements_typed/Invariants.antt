@@ -1,7 +1,7 @@
 use Rattle.std.proofs.Common.{take}
 use Rattle.std.specs.List.{AllByRecursion}
-use Rattle.wbin.specs.declared.module.ElementSegment.{ElementSegment}
-use Rattle.wbin.specs.Syntax.{module_of, element_in}
+use Rattle.wmodule.specs.declared.module.ElementSegment.{ElementSegment}
+use Rattle.wmodule.specs.Syntax.{module_of, element_in}
 use Rattle.wtype.specs.Accepted.{ElementTyped}
 use Rattle.wtype.proofs.globals.elements_typed.Given as goal
 

@@ -1,7 +1,7 @@
 use Rattle.std.proofs.Common.{take}
 use Rattle.std.specs.List.{AllByRecursion}
-use Rattle.wbin.specs.declared.module.GlobalVariable.{GlobalVariable}
-use Rattle.wbin.specs.Syntax.{global_in}
+use Rattle.wmodule.specs.declared.module.GlobalVariable.{GlobalVariable}
+use Rattle.wmodule.specs.Syntax.{global_in}
 use Rattle.wtype.specs.Accepted.{GlobalTyped}
 use Rattle.wtype.proofs.globals.globals_typed.Given as goal
 

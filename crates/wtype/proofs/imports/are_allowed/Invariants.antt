@@ -1,7 +1,7 @@
 use Rattle.std.proofs.Common.{take}
 use Rattle.std.specs.List.{AllByRecursion}
-use Rattle.wbin.specs.declared.module.Import.{Import}
-use Rattle.wbin.specs.Syntax.{module_of, import_of}
+use Rattle.wmodule.specs.declared.module.Import.{Import}
+use Rattle.wmodule.specs.Syntax.{module_of, import_of}
 use Rattle.wtype.specs.Accepted.{ImportAllowed}
 use Rattle.wtype.proofs.imports.are_allowed.Given as goal
 

@@ -1,6 +1,6 @@
 use Rattle.std.proofs.Common.{ap, ◌∙◌}
-use Rattle.wbin.specs.declared.module.Tables.{Tables}
-use Rattle.wbin.specs.Syntax.{module_of, import_of}
+use Rattle.wmodule.specs.declared.module.Tables.{Tables}
+use Rattle.wmodule.specs.Syntax.{module_of, import_of}
 use Rattle.wtype.specs.Accepted.{ImportAllowed}
 use Rattle.wtype.proofs.Kept.{mapped_test}
 use Rattle.wtype.proofs.imports.imports_right.Goals as goal

@@ -1,6 +1,6 @@
 use Rattle.std.proofs.Common.{◌≤◌, take}
 use Rattle.std.specs.List.{AllByRecursion}
-use Rattle.wbin.specs.declared.module.Limits.{Limits}
+use Rattle.wmodule.specs.declared.module.Limits.{Limits}
 use Rattle.wtype.proofs.limits.are_small.Given as goal
 
 -- those so far are small

@@ -1,6 +1,6 @@
 use Rattle.std.proofs.Common.{ap, ◌∙◌}
-use Rattle.wbin.specs.declared.module.Tables.{Tables}
-use Rattle.wbin.specs.Syntax.{module_of, data_in}
+use Rattle.wmodule.specs.declared.module.Tables.{Tables}
+use Rattle.wmodule.specs.Syntax.{module_of, data_in}
 use Rattle.wtype.specs.Accepted.{DataTyped}
 use Rattle.wtype.proofs.Kept.{mapped_test}
 use Rattle.wtype.proofs.rules.datas_kept.Goals as goal

@@ -1,6 +1,6 @@
 use Rattle.std.proofs.Common.{ap, ◌∙◌}
-use Rattle.wbin.specs.declared.module.Tables.{Tables}
-use Rattle.wbin.specs.Syntax.{module_of, element_in}
+use Rattle.wmodule.specs.declared.module.Tables.{Tables}
+use Rattle.wmodule.specs.Syntax.{module_of, element_in}
 use Rattle.wtype.specs.Accepted.{ElementTyped}
 use Rattle.wtype.proofs.Kept.{mapped_test}
 use Rattle.wtype.proofs.rules.elements_kept.Goals as goal

@@ -1,9 +1,9 @@
 use Rattle.std.proofs.Common.{◌≡◌, List, Bool, map, sym, ap, ◌∙◌, subst}
 use Rattle.std.specs.Bool.{MatchBool}
 use Rattle.std.specs.List.{AllByRecursion}
-use Rattle.wbin.specs.declared.module.Tables.{Tables}
-use Rattle.wbin.specs.declared.module.Export.{Export}
-use Rattle.wbin.specs.Syntax.{ExportSyntax, module_of, export_of}
+use Rattle.wmodule.specs.declared.module.Tables.{Tables}
+use Rattle.wmodule.specs.declared.module.Export.{Export}
+use Rattle.wmodule.specs.Syntax.{ExportSyntax, module_of, export_of}
 use Rattle.wtype.specs.Accepted.{NamesSomething, ExportsNamed, DistinctNames}
 use Rattle.wtype.proofs.Each.{all_mapped, all_unmapped, if_ok_by}
 use Rattle.wtype.proofs.Kept.{same_test, on_true, on_false}

@@ -1,9 +1,9 @@
 use Rattle.std.proofs.Common.{◌≡◌, ◌<◌, ℕ, List, length, map, sym, ap, ◌∙◌, subst}
 use Rattle.std.proofs.lemmas.List.{length-map}
 use Rattle.std.specs.List.{AllByRecursion}
-use Rattle.wbin.specs.declared.module.Tables.{Tables}
-use Rattle.wbin.specs.Placed.{Stands}
-use Rattle.wbin.specs.Syntax.{Code, module_of, signature_of, code_in}
+use Rattle.wmodule.specs.declared.module.Tables.{Tables}
+use Rattle.wmodule.specs.Placed.{Stands}
+use Rattle.wmodule.specs.Syntax.{Code, module_of, signature_of, code_in}
 use Rattle.wtype.proofs.Kept.{same_test, types_found, types_within}
 use Rattle.wtype.proofs.rules.types_there.Goals as goal
 

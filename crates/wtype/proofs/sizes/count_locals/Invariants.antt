@@ -1,5 +1,5 @@
 use Rattle.std.proofs.Common.{◌≡◌, ◌+◌, ◌≤◌, length, drop}
-use Rattle.wbin.specs.Syntax.{locals_of}
+use Rattle.wmodule.specs.Syntax.{locals_of}
 use Rattle.wtype.specs.Accepted.{most_slots}
 use Rattle.wtype.proofs.sizes.count_locals.Given as goal
 

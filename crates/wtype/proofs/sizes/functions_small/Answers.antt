@@ -1,7 +1,7 @@
 use Rattle.std.proofs.Common.{◌≡◌, ◌<◌, ℕ, Some, length, get_or, arith, below_more}
 use Rattle.std.specs.Prelude.{slice_get}
 use Rattle.std.proofs.lemmas.Option.{slice_get-get_or, slice_get_within}
-use Rattle.wbin.specs.Syntax.{FunctionSyntax, module_of}
+use Rattle.wmodule.specs.Syntax.{FunctionSyntax, module_of}
 use Rattle.wtype.specs.Accepted.{FunctionSmall}
 use Rattle.wtype.proofs.Each.{all_from, at_place}
 use Rattle.wtype.proofs.Kept.{on_true, on_false}

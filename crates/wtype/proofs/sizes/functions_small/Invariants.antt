@@ -1,6 +1,6 @@
 use Rattle.std.proofs.Common.{◌≡◌, ℕ, ◌<◌, Some}
 use Rattle.std.specs.Prelude.{slice_get}
-use Rattle.wbin.specs.Syntax.{FunctionSyntax, module_of}
+use Rattle.wmodule.specs.Syntax.{FunctionSyntax, module_of}
 use Rattle.wtype.specs.Accepted.{FunctionSmall}
 use Rattle.wtype.proofs.sizes.functions_small.Given as goal
 

@@ -1,5 +1,5 @@
 use Rattle.std.proofs.Common.{refl, sym, inl, inr}
-use Rattle.wbin.specs.Syntax.{module_of}
+use Rattle.wmodule.specs.Syntax.{module_of}
 use Rattle.wmach.specs.Call.{called_function}
 use Rattle.wmach.specs.declared.export.Export.TheVariants as export
 use Rattle.plugin.proofs.KitLemmas.{nothing_called, ends_of_call}

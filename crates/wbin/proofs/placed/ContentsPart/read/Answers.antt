@@ -1,5 +1,5 @@
 use Rattle.std.proofs.Common.{drop, subst, arith}
-use Rattle.wbin.specs.Grammar.{SpellsBytes}
+use Rattle.wmodule.specs.Grammar.{SpellsBytes}
 use Rattle.wbin.specs.inside.Reading.{Reads}
 use Rattle.wbin.proofs.placed.ContentsPart.read.Goals as goal
 

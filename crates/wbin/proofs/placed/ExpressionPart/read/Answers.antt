@@ -1,4 +1,4 @@
-use Rattle.wbin.specs.declared.module.Place.{Place}
+use Rattle.wmodule.specs.declared.module.Place.{Place}
 use Rattle.wbin.specs.inside.Reading.{Reads}
 use Rattle.wbin.proofs.Places.{stands_found, stands_spelled}
 use Rattle.wbin.proofs.placed.ExpressionPart.read.Goals as goal

@@ -2,8 +2,8 @@ use Rattle.std.proofs.Common.{drop, subst, sym}
 use Rattle.std.proofs.lemmas.List.{map-id}
 use Rattle.std.proofs.lemmas.Result.{err_from_is_err_and}
 use Rattle.wcode.specs.Grammar.{SpellsIndex, SpellsExpr}
-use Rattle.wbin.specs.Syntax.{expression_in}
-use Rattle.wbin.specs.Grammar.{SpellsVector}
+use Rattle.wmodule.specs.Syntax.{expression_in}
+use Rattle.wmodule.specs.Grammar.{SpellsVector}
 use Rattle.wbin.specs.inside.Reading.{Reads}
 use Rattle.wbin.specs.inside.Unique.{both_once, index_spelled_once, expression_once}
 use Rattle.wbin.proofs.section_entries.ElementSegmentPart.read.Goals as goal

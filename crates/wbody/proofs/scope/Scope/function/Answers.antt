@@ -1,6 +1,6 @@
 use Rattle.std.proofs.Common.{Some, ap, ◌∙◌, map}
 use Rattle.std.specs.Prelude.{slice_get, option_and_then}
-use Rattle.wbin.specs.declared.module.ImportKind.{ImportKind}
+use Rattle.wmodule.specs.declared.module.ImportKind.{ImportKind}
 use Rattle.wbody.proofs.Found.{imported_type, imported_at, own_at}
 use Rattle.wbody.proofs.scope.Scope.function.Goals as goal
 

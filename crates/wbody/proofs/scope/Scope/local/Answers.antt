@@ -3,8 +3,8 @@ use Rattle.std.specs.Prelude.{nat_le, option_map}
 use Rattle.std.proofs.lemmas.Option.{slice_get-get_or, slice_get_past}
 use Rattle.std.proofs.lemmas.List.Sorted.{IsPartitionPoint-from_clause, IsPartitionedBy-leb}
 use Rattle.std.specs.List.Sorted.{IsNonDecreasingBy}
-use Rattle.wbin.specs.declared.module.LocalRun.{LocalRun}
-use Rattle.wbin.specs.Syntax.{locals_of}
+use Rattle.wmodule.specs.declared.module.LocalRun.{LocalRun}
+use Rattle.wmodule.specs.Syntax.{locals_of}
 use Rattle.wbody.proofs.RunEnds.{ends_rise, local_at, parameter_at}
 use Rattle.wbody.proofs.scope.Scope.local.Goals as goal
 

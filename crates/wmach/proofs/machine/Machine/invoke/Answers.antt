@@ -1,6 +1,6 @@
 use Rattle.std.proofs.Common.{length, sym, ap, ◌∙◌, subst}
 use Rattle.std.proofs.lemmas.List.{with_items_is}
-use Rattle.wbin.specs.Syntax.{module_of}
+use Rattle.wmodule.specs.Syntax.{module_of}
 use Rattle.wtype.specs.CheckedModule.{CheckedModule}
 use Rattle.wmach.specs.inside.Coded.{ShapesAgree, RecordsAgree}
 use Rattle.wmach.specs.Host.{imported_names}

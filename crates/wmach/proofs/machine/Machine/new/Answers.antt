@@ -1,6 +1,6 @@
 use Rattle.std.proofs.Common.{◌≡◌, ◌*◌, length, sym, ap, ◌∙◌, subst, rules}
 use Rattle.std.specs.Arc.{arc_value}
-use Rattle.wbin.specs.Syntax.{ModuleParts, module_of}
+use Rattle.wmodule.specs.Syntax.{ModuleParts, module_of}
 use Rattle.wtype.specs.Accepted.{Accepted, ImportsRight, most_slots}
 use Rattle.wtype.specs.CheckedModule.{CheckedModule}
 use Rattle.wstore.specs.State.{StoreState, new_state}

@@ -1,5 +1,5 @@
 use Rattle.std.proofs.Common.{◌<◌, length, sym, ap, subst}
-use Rattle.wbin.specs.Syntax.{module_of}
+use Rattle.wmodule.specs.Syntax.{module_of}
 use Rattle.wstore.specs.State.{StoreState}
 use Rattle.wmach.specs.Call.{MachineState}
 use Rattle.wmach.proofs.Keeping.{still_machine}

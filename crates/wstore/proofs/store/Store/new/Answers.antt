@@ -2,10 +2,10 @@ use Rattle.std.proofs.Common.{◌≡◌, ◌∙◌, ◌≤◌, ℕ, List, map, s
 use Rattle.std.specs.Prelude.{All}
 use Rattle.std.specs.Arc.{arc_value}
 use Rattle.wmem.specs.Memory.{new_memory}
-use Rattle.wbin.specs.declared.module.Tables.{Tables}
-use Rattle.wbin.specs.declared.module.GlobalVariable.{GlobalVariable}
-use Rattle.wbin.specs.Placed.{IsGlobal}
-use Rattle.wbin.specs.Syntax.{ModuleParts, module_of}
+use Rattle.wmodule.specs.declared.module.Tables.{Tables}
+use Rattle.wmodule.specs.declared.module.GlobalVariable.{GlobalVariable}
+use Rattle.wmodule.specs.Placed.{IsGlobal}
+use Rattle.wmodule.specs.Syntax.{ModuleParts, module_of}
 use Rattle.wtype.specs.CheckedModule.{CheckedModule}
 use Rattle.wtype.specs.Accepted.{Accepted}
 use Rattle.wstore.specs.Store.{cap_of, first_table}

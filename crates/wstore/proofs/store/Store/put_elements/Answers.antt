@@ -1,7 +1,7 @@
 use Rattle.std.proofs.Common.{◌≡◌, ◌+◌, ◌<◌, ◌≤◌, ◌∙◌, ℕ, List, Some, length, sym, ap, subst}
 use Rattle.std.specs.Prelude.{slice_get}
 use Rattle.std.specs.List.{AllByRecursion}
-use Rattle.wbin.specs.Syntax.{ModuleParts, ElementSyntax, module_of}
+use Rattle.wmodule.specs.Syntax.{ModuleParts, ElementSyntax, module_of}
 use Rattle.wbody.specs.Context.{function_types}
 use Rattle.wtype.specs.CheckedModule.{CheckedModule}
 use Rattle.wtype.specs.Accepted.{Accepted, ElementTyped}

@@ -2,14 +2,14 @@
 use Rattle.std.specs.Prelude.{◌≡◌, ℕ, ◌<◌, ◌≤◌, List, All, length}
 use Rattle.wcode.specs.declared.blocks.Block.{Block}
 use Rattle.wcode.specs.Blocks.{HasBlocks}
-use Rattle.wbin.specs.declared.module.Place.{Place}
-use Rattle.wbin.specs.declared.module.FunctionCode.{FunctionCode}
-use Rattle.wbin.specs.declared.module.GlobalVariable.{GlobalVariable}
-use Rattle.wbin.specs.declared.module.ElementSegment.{ElementSegment}
-use Rattle.wbin.specs.declared.module.DataSegment.{DataSegment}
-use Rattle.wbin.specs.declared.module.Tables.{Tables}
-use Rattle.wbin.specs.Syntax.{expression_in, syntax_in}
-use Rattle.wbin.specs.Grammar.{Spells}
+use Rattle.wmodule.specs.declared.module.Place.{Place}
+use Rattle.wmodule.specs.declared.module.FunctionCode.{FunctionCode}
+use Rattle.wmodule.specs.declared.module.GlobalVariable.{GlobalVariable}
+use Rattle.wmodule.specs.declared.module.ElementSegment.{ElementSegment}
+use Rattle.wmodule.specs.declared.module.DataSegment.{DataSegment}
+use Rattle.wmodule.specs.declared.module.Tables.{Tables}
+use Rattle.wmodule.specs.Syntax.{expression_in, syntax_in}
+use Rattle.wmodule.specs.Grammar.{Spells}
 
 -- An expression stands there in the bytes, from its first opcode to behind its `end`, and has these
 -- blocks.

@@ -1,7 +1,7 @@
 //! The parts of a module (WebAssembly Core 1.0, 2.5).
 
 ghost use Rattle.std.specs.Prelude.{◌≡◌};
-ghost use Rattle.wbin.specs.Placed.{Stands};
+ghost use Rattle.wmodule.specs.Placed.{Stands};
 
 use std::marker::Model;
 use wcode::{Block, ValueType};
@@ -147,7 +147,8 @@ impl Drop for Tables {
     }
 }
 
-/// A module: its bytes, and tables that say where things are in them. Only `decode` makes one.
+/// A module: its bytes, and tables that say where things are in them, which they do of each module
+/// that there is.
 pub struct Module {
     bytes: Vec<u8>,
     tables: Tables,
@@ -155,8 +156,8 @@ pub struct Module {
 
 impl Model for Module {
     ghost use Rattle.std.specs.Coded.{codes};
-    ghost use Rattle.wbin.specs.Syntax.{ModuleParts};
-    ghost use Rattle.wbin.specs.Placed.{Stands};
+    ghost use Rattle.wmodule.specs.Syntax.{ModuleParts};
+    ghost use Rattle.wmodule.specs.Placed.{Stands};
 
     ghost Value = { ModuleParts };
 
@@ -178,8 +179,8 @@ impl Drop for Module {
 }
 
 impl Module {
-    /// The module of bytes, and of tables that say what is where in them.
-    pub(crate) fn new(bytes: Vec<u8>, tables: Tables) -> Module
+    /// The module of bytes, and of tables that say what is where in them, as a decoder finds it.
+    pub fn new(bytes: Vec<u8>, tables: Tables) -> Module
         requires { Stands bytes.items tables }
         ensures value { result.bytes ≡ bytes.items }
         ensures tables { result.tables ≡ tables }

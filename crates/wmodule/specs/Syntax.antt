@@ -4,20 +4,20 @@ use Rattle.std.specs.List.{zip}
 use Rattle.wcode.specs.declared.value.ValueType.{ValueType}
 use Rattle.wcode.specs.Syntax.{Body}
 use Rattle.wcode.specs.BodyAt.{body_at}
-use Rattle.wbin.specs.declared.module.FunctionType.{FunctionType}
-use Rattle.wbin.specs.declared.module.Limits.{Limits}
-use Rattle.wbin.specs.declared.module.GlobalType.{GlobalType}
-use Rattle.wbin.specs.declared.module.ImportKind.{ImportKind}
-use Rattle.wbin.specs.declared.module.Import.{Import}
-use Rattle.wbin.specs.declared.module.LocalRun.{LocalRun}
-use Rattle.wbin.specs.declared.module.Place.{Place}
-use Rattle.wbin.specs.declared.module.GlobalVariable.{GlobalVariable}
-use Rattle.wbin.specs.declared.module.ExportKind.{ExportKind}
-use Rattle.wbin.specs.declared.module.Export.{Export}
-use Rattle.wbin.specs.declared.module.ElementSegment.{ElementSegment}
-use Rattle.wbin.specs.declared.module.DataSegment.{DataSegment}
-use Rattle.wbin.specs.declared.module.FunctionCode.{FunctionCode}
-use Rattle.wbin.specs.declared.module.Tables.{Tables}
+use Rattle.wmodule.specs.declared.module.FunctionType.{FunctionType}
+use Rattle.wmodule.specs.declared.module.Limits.{Limits}
+use Rattle.wmodule.specs.declared.module.GlobalType.{GlobalType}
+use Rattle.wmodule.specs.declared.module.ImportKind.{ImportKind}
+use Rattle.wmodule.specs.declared.module.Import.{Import}
+use Rattle.wmodule.specs.declared.module.LocalRun.{LocalRun}
+use Rattle.wmodule.specs.declared.module.Place.{Place}
+use Rattle.wmodule.specs.declared.module.GlobalVariable.{GlobalVariable}
+use Rattle.wmodule.specs.declared.module.ExportKind.{ExportKind}
+use Rattle.wmodule.specs.declared.module.Export.{Export}
+use Rattle.wmodule.specs.declared.module.ElementSegment.{ElementSegment}
+use Rattle.wmodule.specs.declared.module.DataSegment.{DataSegment}
+use Rattle.wmodule.specs.declared.module.FunctionCode.{FunctionCode}
+use Rattle.wmodule.specs.declared.module.Tables.{Tables}
 
 -- what a function takes, first operand first, and what it gives
 pub record Signature : Type 0 where
