@@ -1,6 +1,6 @@
 //! The decoder of WebAssembly modules (WebAssembly Core 1.0, 5.5), which finds a module in bytes or
-//! tells why they spell none, and the law that they spell one at most. What a module is says
-//! `wmodule`.
+//! tells why they spell none, and the law that they spell one at most. `wmodule` says what a module
+//! is.
 //!
 //! - `section` finds where each section stands, before any is read.
 //! - `placeless` reads things that the bytes alone tell, as a name; `placed` things that tell where

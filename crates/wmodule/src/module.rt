@@ -147,8 +147,7 @@ impl Drop for Tables {
     }
 }
 
-/// A module: its bytes, and tables that say where things are in them, which they do of each module
-/// that there is.
+/// A module: its bytes, and tables that say where things are in them, rightly in every module.
 pub struct Module {
     bytes: Vec<u8>,
     tables: Tables,
@@ -179,7 +178,8 @@ impl Drop for Module {
 }
 
 impl Module {
-    /// The module of bytes, and of tables that say what is where in them, as a decoder finds it.
+    /// The module of bytes, and of tables that say what is where in them. It is for a decoder, which
+    /// has to prove that they do.
     pub fn new(bytes: Vec<u8>, tables: Tables) -> Module
         requires { Stands bytes.items tables }
         ensures value { result.bytes ≡ bytes.items }
