@@ -3,8 +3,8 @@
 .PHONY: help first-run try-run plugins deb dist image test
 
 help:
-	@echo 'make first-run   proves the program, builds it and runs it on the first script: 24 to 31 minutes on four older cores (88 to 109 of'
-	@echo '                 processor time), with an unproved run of the same sources after two'
+	@echo 'make first-run   proves the program, builds it and runs it on the first script: 14 minutes on four quick cores (48 of processor'
+	@echo '                 time), 24 to 31 on older ones, with an unproved run of the same sources after one or two'
 	@echo 'make try-run     the unproved run alone, about three minutes of one core; leaves no program'
 	@echo 'make plugins     each plugin of examples/plugins over its script, a second (after first-run)'
 	@echo 'make deb         a Debian package, a minute (after first-run; as root)'
