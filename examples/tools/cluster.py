@@ -2,6 +2,7 @@
 """A cluster as kubectl tells it, read as the second scheduler reads it: nodes, the pods that they have, and those that wait."""
 from __future__ import annotations
 
+import argparse
 import collections
 import json
 import subprocess
@@ -27,6 +28,16 @@ def kubectl(*asked: str) -> list[Json]:
     if done.returncode:
         raise Untold(done.stderr.strip())
     return list(json.loads(done.stdout)["items"])
+
+
+def given_words(said: argparse.ArgumentParser) -> argparse.Namespace:
+    """What a program's words come to, with those by which it is told where its objects are."""
+    said.add_argument("--from", dest="file", metavar="FILE")
+    said.add_argument("--nodes", metavar="SELECTOR")
+    given = said.parse_intermixed_args()
+    if given.file and given.nodes:
+        said.error("--nodes asks kubectl, and --from doesn't")
+    return given
 
 
 def objects(file: str | None, selector: str | None, with_volumes: bool) -> Objects:
